@@ -1,0 +1,133 @@
+-- Laws of the code numbers: each table is one-to-one, and reading a code back gives the number it came from.
+--
+--     codes-one-to-one, names-one-to-one     no code and no name stands twice
+--     number-of-code, code-of-number         a code read back, both ways
+--     code-below, number-below               codes and numbers are below 16
+--     meaning-of-function, function-of-meaning     a function's code read back, both ways
+--     extended-meaning, function-code-below        code 7 alone is extended; function codes are below 16
+use mathlib.Core.Path.{_≡_, refl, sym, ap, subst, _∙_}
+use mathlib.Core.Bool.{Bool, true, false, _&&_}
+use mathlib.Core.List.{List, [], _∷_}
+use Prim.Native.Nat.{ℕ, zero, suc, _≤_, _<_}
+use native.Mathlib.Omega.{arith}
+use native.Mathlib.Decide.{decLt}
+use borrow.Author.Tests.{eqb-true, ltb-true}
+use lib.Dec.{eqb, ltb, lit<}
+use lib.ListN.{length, getD, List·getD-eq-default}
+use Rattle.message.specs.Text.{bytesOf, bytesFrom}
+use Rattle.message.specs.Codes.{lineCodes, placeIn, codeOf, numberOf, functionNames, nameAt, functionCode, meanings, meaningOf}
+use Rattle.message.specs.declared.Function.{Function}
+use Rattle.message.specs.declared.Function.the-variants.{AllUnitsOff, AllLightsOn, On, Off, Dim, Bright, AllLightsOff, HailRequest, HailAcknowledge, StatusOn, StatusOff, StatusRequest}
+use Rattle.message.specs.declared.Meaning.{Meaning}
+use Rattle.message.specs.declared.Meaning.the-variants.{Function as Carries, Extended, Unsupported}
+use Rattle.message.proofs.Tables.{everyFrom, every-at, ReadsBack, read-back, one-to-one}
+
+-- ---- the line codes
+
+codes-read-back : ReadsBack eqb lineCodes
+unfolding lineCodes placeIn
+codes-read-back = refl
+
+pub codes-one-to-one : (i j : ℕ) → i < 16 → j < 16 → codeOf i ≡ codeOf j → i ≡ j
+unfolding codeOf lineCodes
+codes-one-to-one i j hi hj e = one-to-one eqb lineCodes 0 i j codes-read-back hi hj e
+
+pub number-of-code : (n : ℕ) → n < 16 → numberOf (codeOf n) ≡ n
+unfolding codeOf numberOf lineCodes
+number-of-code n h = read-back eqb lineCodes 0 n codes-read-back h
+
+pub code-below : (n : ℕ) → codeOf n < 16
+unfolding codeOf lineCodes
+code-below n = go (decLt n 16)
+  where
+    go : Dec (n < 16) → codeOf n < 16
+    go (yes h) = ltb-true (getD lineCodes n 0) 16 (every-at (λ k x. ltb x 16) lineCodes 0 n refl h)
+    go (no h) =
+        let past : 16 ≤ n = omega arith in
+        rw (List·getD-eq-default lineCodes 0 past) (lit< tt)
+
+-- the sixteen codes, one after the other
+sixteen : List ℕ
+sixteen = 0 ∷ 1 ∷ 2 ∷ 3 ∷ 4 ∷ 5 ∷ 6 ∷ 7 ∷ 8 ∷ 9 ∷ 10 ∷ 11 ∷ 12 ∷ 13 ∷ 14 ∷ 15 ∷ []
+
+-- what a test says at each of the sixteen
+at-sixteen : (f : ℕ → Bool) → everyFrom (λ k x. f k) 0 sixteen ≡ true → (n : ℕ) → n < 16 → f n ≡ true
+unfolding sixteen
+at-sixteen f t n h = every-at (λ k x. f k) sixteen 0 n t h
+
+pub code-of-number : (c : ℕ) → c < 16 → codeOf (numberOf c) ≡ c
+unfolding codeOf numberOf lineCodes placeIn sixteen
+code-of-number c h = eqb-true (codeOf (numberOf c)) c (at-sixteen (λ k. eqb (codeOf (numberOf k)) k) refl c h)
+
+pub number-below : (c : ℕ) → c < 16 → numberOf c < 16
+unfolding codeOf numberOf lineCodes placeIn sixteen
+number-below c h = ltb-true (numberOf c) 16 (at-sixteen (λ k. ltb (numberOf k) 16) refl c h)
+
+-- ---- the function names
+
+abbrev sameText : List ℕ → List ℕ → Bool
+sameText [] [] = true
+sameText [] (y ∷ ys) = false
+sameText (x ∷ xs) [] = false
+sameText (x ∷ xs) (y ∷ ys) = eqb x y && sameText xs ys
+
+names-read-back : ReadsBack sameText functionNames
+unfolding functionNames bytesOf bytesFrom placeIn
+names-read-back = refl
+
+pub names-one-to-one : (i j : ℕ) → i < 16 → j < 16 → nameAt i ≡ nameAt j → i ≡ j
+unfolding nameAt functionNames
+names-one-to-one i j hi hj e = one-to-one sameText functionNames [] i j names-read-back hi hj e
+
+-- ---- the functions
+
+pub meaning-of-function : (f : Function) → meaningOf (functionCode f) ≡ Carries f
+unfolding meaningOf meanings
+meaning-of-function AllUnitsOff = refl
+meaning-of-function AllLightsOn = refl
+meaning-of-function On = refl
+meaning-of-function Off = refl
+meaning-of-function Dim = refl
+meaning-of-function Bright = refl
+meaning-of-function AllLightsOff = refl
+meaning-of-function HailRequest = refl
+meaning-of-function HailAcknowledge = refl
+meaning-of-function StatusOn = refl
+meaning-of-function StatusOff = refl
+meaning-of-function StatusRequest = refl
+
+-- where a meaning is a function, the function has that code
+abbrev hasCode : ℕ → Meaning → Bool
+hasCode c (Carries f) = eqb (functionCode f) c
+hasCode c Extended = eqb c 7
+hasCode c Unsupported = true
+
+meanings-have-codes : everyFrom hasCode 0 meanings ≡ true
+unfolding meanings
+meanings-have-codes = refl
+
+pub function-of-meaning : (c : ℕ) (f : Function) → c < 16 → meaningOf c ≡ Carries f → functionCode f ≡ c
+unfolding meaningOf meanings
+function-of-meaning c f h e =
+    eqb-true (functionCode f) c
+    (ap (hasCode c) (sym e) ∙ every-at hasCode meanings Unsupported c meanings-have-codes h)
+
+-- extended code 1 is code 7 and no other
+pub extended-meaning : (c : ℕ) → c < 16 → meaningOf c ≡ Extended → c ≡ 7
+unfolding meaningOf meanings
+extended-meaning c h e =
+    eqb-true c 7 (ap (hasCode c) (sym e) ∙ every-at hasCode meanings Unsupported c meanings-have-codes h)
+
+pub function-code-below : (f : Function) → functionCode f < 16
+function-code-below AllUnitsOff = lit< tt
+function-code-below AllLightsOn = lit< tt
+function-code-below On = lit< tt
+function-code-below Off = lit< tt
+function-code-below Dim = lit< tt
+function-code-below Bright = lit< tt
+function-code-below AllLightsOff = lit< tt
+function-code-below HailRequest = lit< tt
+function-code-below HailAcknowledge = lit< tt
+function-code-below StatusOn = lit< tt
+function-code-below StatusOff = lit< tt
+function-code-below StatusRequest = lit< tt

@@ -1,0 +1,26 @@
+-- `valid` meets its contract: in each arm the message is the one that the pattern names.
+use borrow.Author.Needs.{needs}
+use Rattle.message.proofs.valid.Statement.{statement}
+use Rattle.message.proofs.valid.Tie as tie
+
+enum-known-m : tie.Need-enum-known-m
+enum-known-m c = search needs
+
+enum-known-m-2 : tie.Need-enum-known-m-2
+enum-known-m-2 c = search needs
+
+enum-known-m-3 : tie.Need-enum-known-m-3
+enum-known-m-3 c = search needs
+
+returns : tie.Need-returns
+returns c = rw (c .before .m .given .1)
+
+returns-2 : tie.Need-returns-2
+returns-2 c = rw (c .before .m2 .given .1)
+
+returns-3 : tie.Need-returns-3
+returns-3 c = rw (c .before .m3 .given .1)
+
+pub valid-spec : {M : Type 1} → statement M
+valid-spec =
+    tie.close (tie.spec enum-known-m enum-known-m-2 enum-known-m-3 returns returns-2 returns-3)

@@ -1,0 +1,6 @@
+pub mod Choice
+pub mod Text
+pub mod Numbers
+pub mod Codes
+pub mod Messages
+pub mod Words
