@@ -73,6 +73,15 @@ pub fn step(r: Receiver, half: u8) -> Heard
     takes(r, half)
 }
 
+// One half-cycle for the caller's own receiver, which is updated in place: the event that `step` gives.
+pub fn receive(r: &mut Receiver, half: u8) -> Event
+    ensures { λ e. ⌜ (e ≡ stepOf (now (r .entry)) half .event) × (now (r .exit) ≡ stepOf (now (r .entry)) half .next) ⌝ }
+{
+    let heard = step(*r, half);
+    *r = heard.next;
+    heard.event
+}
+
 fn saying(event: Event, next: Receiver) -> Heard
     ensures { λ o. ⌜ o ≡ says event next ⌝ }
 {
