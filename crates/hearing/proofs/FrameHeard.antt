@@ -2,8 +2,9 @@
 --
 --     hears-pairs     the pairs, by induction on the bits left
 use Prim.Native.Nat.{ℕ, zero, suc, _+_, _-_, _*_, _/_, _%_, _^_, _≤_}
+use mathlib.Core.Logic.{_≢_}
 use mathlib.Core.Path.{_≡_, refl, sym, ap, _∙_}
-use mathlib.Core.Bool.{true, false, _&&_, and-false}
+use mathlib.Core.Bool.{true, false, _&&_}
 use mathlib.Core.List.{List, [], _∷_, _++_}
 use native.Mathlib.Nat.{div-one}
 use native.Mathlib.Omega.{arith}
@@ -23,7 +24,7 @@ use Rattle.receiver.specs.declared.Event.{Event}
 use Rattle.receiver.specs.declared.Event.the-variants.{Nothing, Message as Gives, Repeat, BrokenPair}
 use Rattle.hearing.specs.Whole.{Ready, frameEvents, lastSix}
 use Rattle.hearing.proofs.Runs.{Run, run-none, run-more, run-append}
-use Rattle.hearing.proofs.Steps.{standing, standing-ok, hunting-ok, step-hunt, hunt-on, step-wanted, step-first, step-second, step-equal}
+use Rattle.hearing.proofs.Steps.{standing, standing-ok, hunting-ok, step-hunt, hunt-on, NoStart, no-start-one, step-wanted, step-unwanted, step-first, step-second, step-equal}
 use Rattle.hearing.proofs.Frames.{Framed, twice, one-more-bit, pairs-few}
 
 -- a receiver before a pair: at a, i bits of the word being left after this pair
@@ -50,13 +51,31 @@ module _ (m : Message) (F : Framed m) (g : Given) (ok : givenOk g ≡ true) wher
       pub equal-half : stepOf (reading i (a + 1) (shifted p x)) x ≡ says BrokenPair (hunting (shifted (shifted p x) x))
       equal-half = step-equal g (shifted p x) (a + 1) (wordOf m / 2 ^ suc i) x half-ok hx (omega arith) (omega arith) (omega arith)
 
-      second-half : x ≡ wordOf m / 2 ^ i % 2
+      pub second-half : x ≡ wordOf m / 2 ^ i % 2
           → stepOf (reading i (a + 1) (shifted p x)) (1 - x) ≡ pairOf (reading i (a + 1) (shifted p x)) (wordOf m / 2 ^ i) (shifted (shifted p x) (1 - x))
       second-half e =
           let same : (p % 32 * 2 + x) % 2 ≡ wordOf m / 2 ^ i % 2 = omega arith in
           step-second g (shifted p x) (a + 1) (wordOf m / 2 ^ suc i) (1 - x) half-ok (omega arith) (omega arith) (omega arith) (λ q. omega arith)
           ∙ ap (λ (b : ℕ). pairOf (reading i (a + 1) (shifted p x)) b (shifted (shifted p x) (1 - x)))
           (ap (λ (y : ℕ). wordOf m / 2 ^ suc i % 268435456 * 2 + y) same ∙ one-more-bit (wordOf m) i (F .small))
+
+  -- a pair that others follow
+  module _ (i a p : ℕ) (h : Before F (suc i) a p) where
+    abbrev pub bit : ℕ
+    bit = wordOf m / 2 ^ suc i % 2
+
+    abbrev pub past : ℕ
+    past = shifted (shifted p bit) (1 - bit)
+
+    pub before-next : Before F i (a + 1 + 1) past
+    before-next = record { place = omega arith; within = omega arith; six = omega arith }
+
+    pub reads-pair : Run (reading (suc i) a p) (bit ∷ (1 - bit) ∷ []) (Nothing ∷ Nothing ∷ []) (reading i (a + 1 + 1) past)
+    reads-pair =
+        run-more (first-half (suc i) a p h bit (omega arith))
+        (run-more
+        (second-half (suc i) a p h bit (omega arith) refl ∙ F .more g (shifted p bit) past i a (wordOf m / 2 ^ suc (suc i)) (h .place))
+        (run-none (reading i (a + 1 + 1) past)))
 
   pub hears-pairs : (i a p : ℕ) → Before F i a p
       → let heard = completeOf g m (lastSix p (pairsOf (bitsOf (suc i) (wordOf m)))) in
@@ -72,25 +91,18 @@ module _ (m : Message) (F : Framed m) (g : Given) (ok : givenOk g ≡ true) wher
       ∙ ap (λ (b : ℕ). pairOf half b q) (div-one (wordOf m))
       ∙ F .last g (shifted p x) q a (wordOf m / 2) (omega arith))
       (run-none (completeOf g m q .next)))
-  hears-pairs (suc i) a p h =
-      let x = wordOf m / 2 ^ suc i % 2 in
-      let q = shifted (shifted p x) (1 - x) in
-      let next : Before F i (a + 1 + 1) q = record { place = omega arith; within = omega arith; six = omega arith } in
-      run-more (first-half (suc i) a p h x (omega arith))
-      (run-more
-      (second-half (suc i) a p h x (omega arith) refl ∙ F .more g (shifted p x) q i a (wordOf m / 2 ^ suc (suc i)) (h .place))
-      (hears-pairs i (a + 1 + 1) q next))
+  hears-pairs (suc i) a p h = run-append (reads-pair i a p h) (hears-pairs i (a + 1 + 1) (past i a p h) (before-next i a p h))
 
 -- ---- the start
 
 -- the start 1 1 1 0 brings a receiver from r to the pairs, the message given before being g
-abbrev Started : Receiver → Given → Type 0
+abbrev pub Started : Receiver → Given → Type 0
 Started r g =
     Run r (1 ∷ 1 ∷ 1 ∷ 0 ∷ []) (Nothing ∷ Nothing ∷ Nothing ∷ Nothing ∷ []) (standing g (lastSix (r .past) (1 ∷ 1 ∷ 1 ∷ 0 ∷ [])) 5 0)
 
 -- a receiver that hunts stays so at a 1
 pub hunts-at-one : (r : Receiver) → receiverOk r ≡ true → r .at ≡ 0 → stepOf r 1 ≡ says Nothing (hunting (shifted (r .past) 1))
-hunts-at-one r v e = step-hunt r 1 v e (omega arith) ∙ hunt-on (r .past) 1 (and-false (eqb (r .past) 7))
+hunts-at-one r v e = step-hunt r 1 v e (omega arith) ∙ hunt-on (r .past) 1 (no-start-one (r .past))
 
 pub ready-starts : (r : Receiver) → Ready r → Started r No
 unfolding lastSix huntOf
@@ -110,15 +122,19 @@ abbrev pub awaiting : Message → ℕ → Receiver
 awaiting m p = standing (Yes m) p 1 0
 
 module _ (m : Message) (ok : messageOk m ≡ true) where
-  -- the four half-cycles that may come next, and the one that must
-  pub awaits-ok : (p a : ℕ) → p ≤ 63 → a ≤ 4 → receiverOk (standing (Yes m) p a 0) ≡ true
-  awaits-ok p a hp ha = standing-ok (Yes m) p a 0 ok hp (pairs-few a 0 (omega arith))
+  module _ (p a h : ℕ) (hp : p ≤ 63) (low : 1 ≤ a) (high : a ≤ 4) (hh : h ≤ 1) where
+    awaits-ok : receiverOk (standing (Yes m) p a 0) ≡ true
+    awaits-ok = standing-ok (Yes m) p a 0 ok hp (pairs-few a 0 (omega arith))
 
-  pub awaits-on : (p a h : ℕ) → p ≤ 63 → 1 ≤ a → a ≤ 4 → h ≤ 1 → h ≡ pick (leb a 3) 1 0
-      → stepOf (standing (Yes m) p a 0) h ≡ says Nothing (standing (Yes m) (shifted p h) (a + 1) 0)
-  awaits-on p a h hp low high hh e = step-wanted (Yes m) p a 0 h (awaits-ok p a hp high) hh low high e
+    -- the half-cycle that must come
+    pub awaits-on : h ≡ pick (leb a 3) 1 0 → stepOf (standing (Yes m) p a 0) h ≡ says Nothing (standing (Yes m) (shifted p h) (a + 1) 0)
+    awaits-on e = step-wanted (Yes m) p a 0 h awaits-ok hh low high e
 
-  awaiting-starts : (p : ℕ) → p ≤ 63 → Started (awaiting m p) (Yes m)
+    -- another
+    pub awaits-off : h ≢ pick (leb a 3) 1 0 → NoStart p h → stepOf (standing (Yes m) p a 0) h ≡ says Nothing (hunting (shifted p h))
+    awaits-off n s = step-unwanted (Yes m) p a 0 h awaits-ok hh low high n ∙ hunt-on p h s
+
+  pub awaiting-starts : (p : ℕ) → p ≤ 63 → Started (awaiting m p) (Yes m)
   unfolding lastSix
   awaiting-starts p hp =
       let p₁ = shifted p 1 in

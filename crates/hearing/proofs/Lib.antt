@@ -4,3 +4,5 @@ pub mod Frames
 pub mod Pasts
 pub mod FrameHeard
 pub mod WholeHeard
+pub mod Hush
+pub mod InversionHeard

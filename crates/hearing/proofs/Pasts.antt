@@ -3,7 +3,7 @@
 --     six-append                   two lists
 --     six-clear, six-three-clear   the last three stay clear; three clear ones
 --     Bits, bits-of                a list of 0 and 1; the bits of a word are such
---     Clean, clean-pairs, clean-frame     what holds after a pair of different half-cycles that followed such a pair or a start
+--     Clean, clean-pair, clean-pairs, clean-start, clean-frame     what holds after a pair of different half-cycles that followed such a pair or a start
 use Prim.Native.Nat.{ℕ, zero, suc, _+_, _-_, _*_, _/_, _%_, _^_, _≤_}
 use mathlib.Core.Logic.{_≢_}
 use mathlib.Core.Path.{_≡_, refl, _∙_}
@@ -67,7 +67,7 @@ clean-more p d low high c =
     let four : (p % 16 * 4 + d) % 16 ≡ p % 4 * 4 + d = omega arith in
     record { six = omega arith; low = omega arith; high = omega arith; apart = omega arith }
 
-clean-pair : (p b : ℕ) → b ≤ 1 → Clean p → Clean (shifted (shifted p b) (1 - b))
+pub clean-pair : (p b : ℕ) → b ≤ 1 → Clean p → Clean (shifted (shifted p b) (1 - b))
 clean-pair p b h c = rw (two-more p b (1 - b) h) (clean-more p (b * 2 + (1 - b)) (omega arith) (omega arith) c)
 
 pub clean-pairs : (bs : List ℕ) (p : ℕ) → Bits bs → Clean p → Clean (lastSix p (pairsOf bs))
@@ -75,9 +75,12 @@ unfolding lastSix pairsOf
 clean-pairs [] p hb c = c
 clean-pairs (b ∷ bs) p hb c = clean-pairs bs (shifted (shifted p b) (1 - b)) (hb .1) (clean-pair p b (hb .0) c)
 
+pub clean-start : (p : ℕ) → Clean (shifted (shifted (shifted (shifted p 1) 1) 1) 0)
+clean-start p =
+    rw (four-more p 1 1 1 0 (omega arith) (omega arith) (omega arith))
+    (record { six = omega arith; low = omega arith; high = omega arith; apart = omega arith })
+
 pub clean-frame : (m : Message) (p : ℕ) → Clean (lastSix p (frameOf m))
 unfolding lastSix frameOf
 clean-frame m p =
-    clean-pairs (bitsOf (bitCount m) (wordOf m)) (shifted (shifted (shifted (shifted p 1) 1) 1) 0) (bits-of (bitCount m) (wordOf m))
-    (rw (four-more p 1 1 1 0 (omega arith) (omega arith) (omega arith))
-    (record { six = omega arith; low = omega arith; high = omega arith; apart = omega arith }))
+    clean-pairs (bitsOf (bitCount m) (wordOf m)) (shifted (shifted (shifted (shifted p 1) 1) 1) 0) (bits-of (bitCount m) (wordOf m)) (clean-start p)

@@ -2,11 +2,13 @@
 --
 --     hunting-ok, standing-ok     these receivers are valid
 --     step-hunt, hunt-on          hunting; no start pattern
+--     NoStart, no-start-one, no-start-past     where there is none
 --     step-wanted, step-unwanted     awaiting: the half-cycle that must come, another
 --     step-first, step-second, step-equal     a pair's first half-cycle; its second, different and equal
 use Prim.Native.Nat.{ℕ, _+_, _*_, _%_, _≤_, _<_}
+use mathlib.Core.Logic.{_≢_}
 use mathlib.Core.Path.{_≡_, refl, sym, ap, _∙_}
-use mathlib.Core.Bool.{Bool, true, false, _&&_, _||_}
+use mathlib.Core.Bool.{Bool, true, false, _&&_, _||_, and-false}
 use native.Mathlib.Omega.{arith}
 use borrow.Author.Tests.{le-leb, lt-leb, eq-eqb, ne-eqb}
 use lib.Dec.{eqb, leb}
@@ -40,7 +42,17 @@ pub step-hunt : (r : Receiver) (h : ℕ) → receiverOk r ≡ true → r .at ≡
 unfolding takesOf
 step-hunt r h v e b = step-valid r h v b ∙ rw (eq-eqb (r .at) 0 e)
 
-pub hunt-on : (p h : ℕ) → (eqb p 7 && eqb h 0) ≡ false → huntOf p h ≡ says Nothing (hunting (shifted p h))
+-- the last seven half-cycles, with h, are not 0 0 0 1 1 1 0
+abbrev pub NoStart : ℕ → ℕ → Type 0
+NoStart past h = (eqb past 7 && eqb h 0) ≡ false
+
+pub no-start-one : (p : ℕ) → NoStart p 1
+no-start-one p = and-false (eqb p 7)
+
+pub no-start-past : (p h : ℕ) → p ≢ 7 → NoStart p h
+no-start-past p h n = rw (ne-eqb p 7 n)
+
+pub hunt-on : (p h : ℕ) → NoStart p h → huntOf p h ≡ says Nothing (hunting (shifted p h))
 unfolding huntOf
 hunt-on p h e = rw e
 

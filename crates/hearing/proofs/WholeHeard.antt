@@ -7,11 +7,9 @@
 use Prim.Native.Nat.{ℕ, zero, suc, _*_, _%_, _≤_}
 use mathlib.Core.Logic.{_≢_}
 use mathlib.Core.Path.{_≡_, refl, sym, ap, _∙_}
-use mathlib.Core.Bool.{true, false, _&&_}
+use mathlib.Core.Bool.{true}
 use mathlib.Core.List.{List, [], _∷_, _++_}
 use native.Mathlib.Omega.{arith}
-use borrow.Author.Tests.{ne-eqb}
-use lib.Dec.{eqb}
 use lib.ListN.{replicate}
 use Rattle.message.specs.Messages.{messageOk, BytesOk}
 use Rattle.message.specs.declared.Message.{Message}
@@ -22,7 +20,7 @@ use Rattle.receiver.specs.declared.Event.{Event}
 use Rattle.receiver.specs.declared.Event.the-variants.{Nothing, Message as Gives, Repeat}
 use Rattle.hearing.specs.Whole.{clear, Ready, burstEvents, lastSix, Hears, HeardWhole, EveryBurstIsHeard}
 use Rattle.hearing.proofs.Runs.{Run, run-none, run-more, run-append}
-use Rattle.hearing.proofs.Steps.{hunting-ok, step-hunt, hunt-on}
+use Rattle.hearing.proofs.Steps.{hunting-ok, step-hunt, hunt-on, no-start-past}
 use Rattle.hearing.proofs.Frames.{Framed, framed}
 use Rattle.hearing.proofs.Pasts.{six-append, six-clear, six-three-clear, Clean, clean-frame}
 use Rattle.hearing.proofs.FrameHeard.{hears-frame, hears-repeat}
@@ -44,7 +42,7 @@ idle-hunting p hp n = record { valid = hunting-ok p hp; hunts = refl; unstarted 
 pub idle-step : (r : Receiver) → Idle r → stepOf r 0 ≡ says Nothing (hunting (shifted (r .past) 0))
 idle-step r h =
     step-hunt r 0 (h .valid) (h .hunts) (omega arith)
-    ∙ hunt-on (r .past) 0 (rw (ne-eqb (r .past) 7 (h .unstarted)))
+    ∙ hunt-on (r .past) 0 (no-start-past (r .past) 0 (h .unstarted))
 
 -- z clear half-cycles bring r to s
 pub record Waits (r : Receiver) (z : ℕ) : Type 0 where
