@@ -1,30 +1,29 @@
 -- Where no start pattern comes, a hunting receiver says nothing and goes on hunting.
 --
---     Hush, hush-run, hush-append     no start in a list of half-cycles
---     hush-clear                      nor in clear half-cycles
---     Calm, hush-pairs, calm-pairs    nor in pairs of different half-cycles
---     hush-frame                      nor in a frame that no three clear half-cycles come before
---     Steady, hush-start, calm-start     nor in a start of which one half-cycle is inverted
---     calm-equal                      nor after an equal pair
+--     Hush, hush-run, hush-append         no start in a list of half-cycles
+--     hush-clear                          none in clear half-cycles
+--     Calm, hush-pairs, calm-pairs        none in pairs of a bit and its complement
+--     calm-equal                          nor where those follow an equal pair
+--     hush-frame, calm-frame              none in a frame that does not come after three clear half-cycles
+--     Steady, hush-start, calm-start      none in a start of which one half-cycle is inverted
 use Prim.Native.Nat.{ℕ, zero, suc, _+_, _-_, _*_, _%_, _≤_, _<_}
 use mathlib.Core.Logic.{_≢_}
-use mathlib.Core.Path.{_≡_, refl, sym, _∙_}
+use mathlib.Core.Path.{_≡_, refl}
 use mathlib.Core.List.{List, [], _∷_, _++_}
 use native.Mathlib.Omega.{arith}
-use lib.ListN.{length, replicate, getD, set}
+use lib.ListN.{length, replicate}
 use Rattle.message.specs.Words.{wordOf, bitCount}
 use Rattle.message.specs.declared.Message.{Message}
 use Rattle.burst.specs.Frames.{bitsOf, pairsOf, frameOf}
-use Rattle.receiver.specs.Receivers.{stepOf, says, hunting, shifted}
-use Rattle.receiver.specs.declared.Receiver.{Receiver}
+use Rattle.receiver.specs.Receivers.{hunting, shifted}
 use Rattle.receiver.specs.declared.Event.the-variants.{Nothing}
 use Rattle.hearing.specs.Whole.{clear, lastSix}
 use Rattle.hearing.specs.Inversion.{inverted}
 use Rattle.hearing.proofs.Runs.{Run, run-none, run-more}
-use Rattle.hearing.proofs.Steps.{hunting-ok, step-hunt, hunt-on, NoStart, no-start-one, no-start-past}
-use Rattle.hearing.proofs.Pasts.{Bits, bits-of, two-more, four-more, Clean}
+use Rattle.hearing.proofs.Steps.{hunting-ok, NoStart, no-start-one, no-start-past, hunts-on}
+use Rattle.hearing.proofs.Pasts.{start, paired, two-more, two-kept, three-more, four-more, Bits, bits-of, Clean}
 
--- the half-cycles are 0 or 1, and none completes the start pattern
+-- the half-cycles are 0 or 1, and none of them completes the start pattern
 abbrev pub Hush : ℕ → List ℕ → Type 0
 Hush p [] = Unit {0}
 Hush p (h ∷ hs) = (h ≤ 1) × NoStart p h × Hush (shifted p h) hs
@@ -33,14 +32,8 @@ pub hush-run : (hs : List ℕ) (p : ℕ) → p ≤ 63 → Hush p hs → Run (hun
 unfolding lastSix
 hush-run [] p hp u = run-none (hunting p)
 hush-run (h ∷ hs) p hp u =
-    let low : h ≤ 1 = u .0 in
-    run-more (step-hunt (hunting p) h (hunting-ok p hp) refl low ∙ hunt-on p h (u .1))
-    (hush-run hs (shifted p h) (omega arith) (u .2))
-
-pub hush-six : (hs : List ℕ) (p : ℕ) → p ≤ 63 → Hush p hs → lastSix p hs ≤ 63
-unfolding lastSix
-hush-six [] p hp u = hp
-hush-six (h ∷ hs) p hp u = let low : h ≤ 1 = u .0 in hush-six hs (shifted p h) (omega arith) (u .2)
+    let half : h ≤ 1 = u .0 in
+    run-more (hunts-on (hunting p) (hunting-ok p hp) refl h half (u .1)) (hush-run hs (shifted p h) (omega arith) (u .2))
 
 pub hush-append : (hs ks : List ℕ) (p : ℕ) → Hush p hs → Hush (lastSix p hs) ks → Hush p (hs ++ ks)
 unfolding lastSix
@@ -53,7 +46,7 @@ hush-clear (suc y) p n = (omega arith, no-start-past p 0 n, hush-clear y (shifte
 
 -- ---- pairs
 
--- neither 0 0 0 1 1 1, which a 0 may follow, nor 0 0 0 1 1, which 1 0 may
+-- the last half-cycles are not 0 0 0 1 1 1, which a 0 would complete, nor 0 0 0 1 1, which a pair 1 0 would
 pub record Calm (p : ℕ) : Type 0 where
   pub six : p ≤ 63
   pub ones : p ≢ 7
@@ -64,12 +57,8 @@ hush-pair p zero h c = (no-start-past p 0 (c .ones), no-start-one (shifted p 0))
 hush-pair p (suc zero) h c = (no-start-one p, no-start-past (shifted p 1) 0 (omega arith))
 hush-pair p (suc (suc b)) h c = absurd (omega arith)
 
--- a pair of different half-cycles
-calm-pair : (p b : ℕ) → b ≤ 1 → Calm (shifted (shifted p b) (1 - b))
-calm-pair p b h = rw (two-more p b (1 - b) h) (calm (b * 2 + (1 - b)) (omega arith) (omega arith))
-  where
-    calm : (d : ℕ) → 1 ≤ d → d ≤ 2 → Calm (p % 16 * 4 + d)
-    calm d low high = record { six = omega arith; ones = omega arith; two-ones = omega arith }
+calm-pair : (p b : ℕ) → b ≤ 1 → Calm (paired p b)
+calm-pair p b h = rw (two-more p b (1 - b) h) (omega arith)
 
 pub hush-pairs : (bs : List ℕ) (p : ℕ) → Bits bs → Calm p → Hush p (pairsOf bs)
 unfolding pairsOf
@@ -77,73 +66,49 @@ hush-pairs [] p hb c = tt
 hush-pairs (b ∷ bs) p hb c =
     let one : b ≤ 1 = hb .0 in
     let u = hush-pair p b one c in
-    (one, u .0, (omega arith, u .1, hush-pairs bs (shifted (shifted p b) (1 - b)) (hb .1) (calm-pair p b one)))
+    (one, u .0, (omega arith, u .1, hush-pairs bs (paired p b) (hb .1) (calm-pair p b one)))
 
 pub calm-pairs : (bs : List ℕ) (p : ℕ) → Bits bs → Calm p → Calm (lastSix p (pairsOf bs))
 unfolding pairsOf lastSix
 calm-pairs [] p hb c = c
-calm-pairs (b ∷ bs) p hb c = calm-pairs bs (shifted (shifted p b) (1 - b)) (hb .1) (calm-pair p b (hb .0))
-
--- what six half-cycles keep of four and a pair d
-keeps : (p d : ℕ) → d ≤ 3 → (p % 16 * 4 + d) % 32 ≡ p % 8 * 4 + d
-keeps p d h = omega arith
+calm-pairs (b ∷ bs) p hb c = calm-pairs bs (paired p b) (hb .1) (calm-pair p b (hb .0))
 
 pub calm-equal : (p b : ℕ) → b ≤ 1 → Clean p → Calm (shifted (shifted p b) b)
-calm-equal p zero h c =
-    rw (two-more p 0 0 h) (record { six = omega arith; ones = omega arith; two-ones = omega (arith, keeps p 0 (omega arith)) })
+calm-equal p zero h c = let kept = two-kept p 0 (omega arith) in rw (two-more p 0 0 h) (omega arith)
 calm-equal p (suc zero) h c =
     let low : p % 8 % 4 ≡ p % 4 = omega arith in
-    rw (two-more p 1 1 h) (record { six = omega arith; ones = omega arith; two-ones = omega (arith, keeps p 3 (omega arith)) })
+    let kept = two-kept p 3 (omega arith) in
+    rw (two-more p 1 1 h) (omega arith)
 calm-equal p (suc (suc b)) h c = absurd (omega arith)
 
 -- ---- frames
 
-three-more : (p b c d : ℕ) → b ≤ 1 → c ≤ 1 → shifted (shifted (shifted p b) c) d ≡ p % 8 * 8 + (b * 4 + c * 2 + d)
-three-more p b c d hb hc = rw (two-more p b c hb, keeps p (b * 2 + c) (omega arith)) (omega arith)
-
--- the last four half-cycles, which end in no 0 0 1 1
-calm-four : (p b c d e : ℕ) → b ≤ 1 → c ≤ 1 → d ≤ 1 → e ≤ 1 → b * 8 + c * 4 + d * 2 + e ≢ 3 → b * 8 + c * 4 + d * 2 + e ≢ 7
+-- the last four half-cycles b c d e, which end neither in 0 0 1 1 nor in 0 1 1 1
+calm-four : (p b c d e : ℕ) → (b ≤ 1) × (c ≤ 1) × (d ≤ 1) × (e ≤ 1) × (b * 8 + c * 4 + d * 2 + e ≢ 3) × (b * 8 + c * 4 + d * 2 + e ≢ 7)
     → Calm (shifted (shifted (shifted (shifted p b) c) d) e)
-calm-four p b c d e hb hc hd he n k =
-    rw (four-more p b c d e hb hc hd) (record { six = omega arith; ones = omega arith; two-ones = omega arith })
+calm-four p b c d e h = rw (four-more p b c d e (h .0, h .1, h .2)) (omega arith)
 
-pub hush-frame : (m : Message) (p : ℕ) → p % 8 ≢ 0 → Hush p (frameOf m)
-unfolding frameOf
-hush-frame m p n =
-    let p₁ = shifted p 1 in
-    let p₂ = shifted p₁ 1 in
-    let p₃ = shifted p₂ 1 in
-    let three : p₃ ≢ 7 = rw (three-more p 1 1 1 (omega arith) (omega arith)) (omega arith) in (
-      omega arith,
-      no-start-one p,
-      (
-        omega arith,
-        no-start-one p₁,
-        (
-          omega arith,
-          no-start-one p₂,
-          (
-            omega arith,
-            no-start-past p₃ 0 three,
-            hush-pairs (bitsOf (bitCount m) (wordOf m)) (shifted p₃ 0) (bits-of (bitCount m) (wordOf m))
-                (calm-four p 1 1 1 0 (omega arith) (omega arith) (omega arith) (omega arith) (omega arith) (omega arith)),
-          ),
-        ),
-      ),
-    )
+module _ (m : Message) (p : ℕ) where
+  bits : List ℕ
+  bits = bitsOf (bitCount m) (wordOf m)
 
-pub calm-frame : (m : Message) (p : ℕ) → Calm (lastSix p (frameOf m))
-unfolding frameOf lastSix
-calm-frame m p =
-    calm-pairs (bitsOf (bitCount m) (wordOf m)) (shifted (shifted (shifted (shifted p 1) 1) 1) 0) (bits-of (bitCount m) (wordOf m))
-    (calm-four p 1 1 1 0 (omega arith) (omega arith) (omega arith) (omega arith) (omega arith) (omega arith))
+  pub hush-frame : p % 8 ≢ 0 → Hush p (frameOf m)
+  unfolding frameOf bits
+  hush-frame n =
+      let p₁ = shifted p 1 in
+      let p₂ = shifted p₁ 1 in
+      let p₃ = shifted p₂ 1 in
+      let three : p₃ ≢ 7 = rw (three-more p 1 1 1 (omega arith)) (omega arith) in
+      let pairs = hush-pairs bits (shifted p₃ 0) (bits-of (bitCount m) (wordOf m)) (calm-four p 1 1 1 0 (omega arith)) in
+      (omega arith, no-start-one p, (omega arith, no-start-one p₁, (omega arith, no-start-one p₂, (omega arith, no-start-past p₃ 0 three, pairs))))
 
--- ---- a start with an inverted half-cycle
+  pub calm-frame : Calm (lastSix p (frameOf m))
+  unfolding frameOf lastSix bits
+  calm-frame = calm-pairs bits (lastSix p start) (bits-of (bitCount m) (wordOf m)) (calm-four p 1 1 1 0 (omega arith))
 
-abbrev pub start : List ℕ
-start = 1 ∷ 1 ∷ 1 ∷ 0 ∷ []
+-- ---- a start with one half-cycle inverted
 
--- of the start pattern's seven half-cycles neither the first four came, nor the first five, nor the first six
+-- the last half-cycles are not the first six, five or four of the start pattern
 pub record Steady (p : ℕ) : Type 0 where
   pub ones : p ≢ 7
   pub two-ones : p % 32 ≢ 3
@@ -151,37 +116,36 @@ pub record Steady (p : ℕ) : Type 0 where
 
 pub hush-start : (i p : ℕ) → i < 4 → Steady p → Hush p (inverted i start)
 unfolding inverted
-hush-start zero p h s =
+hush-start zero p l s =
     let p₁ = shifted p 0 in
     let p₂ = shifted p₁ 1 in
     let p₃ = shifted p₂ 1 in
-    let third : p₃ ≢ 7 = rw (three-more p 0 1 1 (omega arith) (omega arith)) (omega arith) in
+    let third : p₃ ≢ 7 = rw (three-more p 0 1 1 (omega arith)) (omega arith) in
     (omega arith, no-start-past p 0 (s .ones), (omega arith, no-start-one p₁, (omega arith, no-start-one p₂, (omega arith, no-start-past p₃ 0 third, tt))))
-hush-start (suc zero) p h s =
+hush-start (suc zero) p l s =
     let p₁ = shifted p 1 in
     let p₂ = shifted p₁ 0 in
     let p₃ = shifted p₂ 1 in
     let first : p₁ ≢ 7 = omega arith in
-    let third : p₃ ≢ 7 = rw (three-more p 1 0 1 (omega arith) (omega arith)) (omega arith) in
+    let third : p₃ ≢ 7 = rw (three-more p 1 0 1 (omega arith)) (omega arith) in
     (omega arith, no-start-one p, (omega arith, no-start-past p₁ 0 first, (omega arith, no-start-one p₂, (omega arith, no-start-past p₃ 0 third, tt))))
-hush-start (suc (suc zero)) p h s =
+hush-start (suc (suc zero)) p l s =
     let p₁ = shifted p 1 in
     let p₂ = shifted p₁ 1 in
     let p₃ = shifted p₂ 0 in
     let second : p₂ ≢ 7 = rw (two-more p 1 1 (omega arith)) (omega arith) in
-    let third : p₃ ≢ 7 = omega arith in
-    (omega arith, no-start-one p, (omega arith, no-start-one p₁, (omega arith, no-start-past p₂ 0 second, (omega arith, no-start-past p₃ 0 third, tt))))
-hush-start (suc (suc (suc zero))) p h s =
+    (omega arith, no-start-one p, (omega arith, no-start-one p₁, (omega arith, no-start-past p₂ 0 second, (omega arith, no-start-past p₃ 0 (omega arith), tt))))
+hush-start (suc (suc (suc zero))) p l s =
     let p₁ = shifted p 1 in
     let p₂ = shifted p₁ 1 in
     let p₃ = shifted p₂ 1 in
     (omega arith, no-start-one p, (omega arith, no-start-one p₁, (omega arith, no-start-one p₂, (omega arith, no-start-one p₃, tt))))
-hush-start (suc (suc (suc (suc i)))) p h s = absurd (omega arith)
+hush-start (suc (suc (suc (suc i)))) p l s = absurd (omega arith)
 
 pub calm-start : (i p : ℕ) → i < 4 → Calm (lastSix p (inverted i start))
 unfolding inverted lastSix
-calm-start zero p h = calm-four p 0 1 1 0 (omega arith) (omega arith) (omega arith) (omega arith) (omega arith) (omega arith)
-calm-start (suc zero) p h = calm-four p 1 0 1 0 (omega arith) (omega arith) (omega arith) (omega arith) (omega arith) (omega arith)
-calm-start (suc (suc zero)) p h = calm-four p 1 1 0 0 (omega arith) (omega arith) (omega arith) (omega arith) (omega arith) (omega arith)
-calm-start (suc (suc (suc zero))) p h = calm-four p 1 1 1 1 (omega arith) (omega arith) (omega arith) (omega arith) (omega arith) (omega arith)
-calm-start (suc (suc (suc (suc i)))) p h = absurd (omega arith)
+calm-start zero p l = calm-four p 0 1 1 0 (omega arith)
+calm-start (suc zero) p l = calm-four p 1 0 1 0 (omega arith)
+calm-start (suc (suc zero)) p l = calm-four p 1 1 0 0 (omega arith)
+calm-start (suc (suc (suc zero))) p l = calm-four p 1 1 1 1 (omega arith)
+calm-start (suc (suc (suc (suc i)))) p l = absurd (omega arith)
