@@ -3,7 +3,7 @@
 --     Rests, rests-fresh, ready-rests, rests-hunting     has heard c clear half-cycles in a row
 --     rests-step, rests-next                             one more
 --     rests-ready                                        three are enough
-use Prim.Native.Nat.{ℕ, suc, _*_, _%_, _≤_}
+use Prim.Native.Nat.{ℕ, suc, _%_, _≤_}
 use mathlib.Core.Logic.{_≢_}
 use mathlib.Core.Path.{_≡_, refl}
 use mathlib.Core.Bool.{true}

@@ -6,7 +6,7 @@
 use Prim.Native.Nat.{ℕ, zero, suc, _+_, _≤_}
 use mathlib.Core.Path.{_≡_}
 use mathlib.Core.Bool.{true}
-use mathlib.Core.List.{_∷_, _++_}
+use mathlib.Core.List.{_++_}
 use native.Mathlib.Omega.{arith}
 use lib.ListN.{replicate}
 use Rattle.message.specs.Messages.{messageOk, BytesOk}
@@ -15,7 +15,7 @@ use Rattle.burst.specs.Frames.{frameOf, burstOf}
 use Rattle.receiver.specs.Receivers.{hunting, shifted, freshReceiver}
 use Rattle.receiver.specs.declared.Receiver.{Receiver}
 use Rattle.receiver.specs.declared.Event.the-variants.{Nothing}
-use Rattle.hearing.specs.Whole.{clear, Ready, burstEvents, lastSix, Hears, HeardWhole, EveryBurstIsHeard}
+use Rattle.hearing.specs.Whole.{clear, Ready, burstEvents, lastSix, Hears, EveryBurstIsHeard}
 use Rattle.hearing.proofs.Runs.{Run, run-more, run-append}
 use Rattle.hearing.proofs.FrameBits.{framed}
 use Rattle.hearing.proofs.Pasts.{six-append, clean-frame}
