@@ -23,7 +23,7 @@ pub record Rests (c : ℕ) (r : Receiver) : Type 0 where
   pub two : 2 ≤ c → r .past % 4 ≡ 0
   pub three : 3 ≤ c → r .past % 8 ≡ 0
 
--- any number of clear half-cycles may come after this one
+-- one of which no clear half-cycle is known
 pub rests-hunting : (p : ℕ) → p ≤ 63 → p ≢ 7 → Rests 0 (hunting p)
 rests-hunting p hp n = record {
   valid = hunting-ok p hp;

@@ -110,7 +110,8 @@ module _ (m : Message) (ok : messageOk m ≡ true) (bytes : BytesOk m) (r : Rece
   unfolding standsAt
   stands-step k l =
       step-at (burstOf m) r k l
-      ∙ ap (λ (e : Event). says e (receiverAfter r (take (suc k) (burstOf m)))) (ap (λ (es : List Event). getD es k Nothing) (hears-burst m ok bytes r h .events) ∙ said m k)
+      ∙ ap (λ (e : Event). says e (receiverAfter r (take (suc k) (burstOf m))))
+      (ap (λ (es : List Event). getD es k Nothing) (hears-burst m ok bytes r h .events) ∙ said m k)
 
   pub stands-last : Rests 0 (standsAt m r (length (burstOf m)))
   unfolding standsAt
