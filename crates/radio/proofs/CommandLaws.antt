@@ -1,18 +1,22 @@
 -- Laws of the list of commands, and of the command that the reader finds in it.
-use mathlib.Core.Path.{_≡_, refl, sym, ap, ap₂, subst, _∙_}
+--
+--     getD-mem, every-mem                      an entry is a member; what a test over a list says of a member
+--     in-commands, commands-ok                 the list has the valid commands and no others
+--     commands-count, commands-one-to-one      it has 544, and none twice
+--     Read, read-cases                         b and c are read as the command that has them, or refused where none has
+--     code-given, code-refused                 the same, from one command and from no command
+use mathlib.Core.Path.{_≡_, refl, sym, ap, subst, _∙_}
 use mathlib.Core.Bool.{Bool, true, false, _&&_, and-eq-true-iff, true≢false}
-use mathlib.Core.List.{List, [], _∷_, _++_, flatMap, map, List·Memᴰ, List·Memᴰ·head, List·Memᴰ·tail, List·Memᴰ·not-nil, List·Memᴰ·cases-cons, Memᴰ·append-left, Memᴰ·append-right, Memᴰ·cast}
+use mathlib.Core.List.{List, [], _∷_, _++_, flatMap, List·Memᴰ, List·Memᴰ·head, List·Memᴰ·tail, List·Memᴰ·not-nil, List·Memᴰ·cases-cons, Memᴰ·append-left, Memᴰ·append-right, Memᴰ·cast}
 use mathlib.Core.Logic.{_⊎_, inl, inr}
-use Prim.Native.Nat.{ℕ, zero, suc, _+_, _-_, _*_, _/_, _%_, _^_, _≤_, _<_}
+use Prim.Native.Nat.{ℕ, zero, suc, _+_, _*_, _<_}
 use native.Mathlib.Nat.{le-of-suc-le-suc, not-suc-le-zero}
-use native.Mathlib.Omega.{arith}
-use borrow.Author.Tests.{eqb-true, ltb-true, leb-true, eq-eqb, ne-eqb, le-leb}
-use lib.Dec.{eqb, ltb, leb, lit<}
-use lib.ListN.{length, getD, List·getD-eq-default}
-use Rattle.message.specs.Choice.{pick}
-use Rattle.message.specs.Numbers.{NONE, CODE}
+use borrow.Author.Tests.{eqb-true, eq-eqb}
+use lib.Dec.{eqb}
+use lib.ListN.{length, getD}
+use Rattle.message.specs.Numbers.{CODE}
 use Rattle.message.proofs.Tables.{everyFrom, every-at}
-use Rattle.radio.specs.Codes.{byteB, byteC, commandOk, sixteen, commandsOf, commands}
+use Rattle.radio.specs.Codes.{byteB, byteC, commandOk, sixteen, switchesOf, commandsOf, commands}
 use Rattle.radio.specs.Answers.{given, refused, hasCode, commandIn, codeAnswer}
 use Rattle.radio.specs.declared.RadioCommand.{RadioCommand}
 use Rattle.radio.specs.declared.RadioCommand.the-variants.{On, Off, Bright, Dim}
@@ -43,18 +47,22 @@ unfolding sixteen
 in-sixteen n l =
     Memᴰ·cast (sym (eqb-true (getD sixteen n 0) n (every-at (λ k x. eqb x k) sixteen 0 n refl l))) (getD-mem sixteen n 0 l)
 
+module _ (h : ℕ) (k : RadioCommand) (lh : h < 16) where
+  in-switches : (u : ℕ) → u < 16 → List·Memᴰ k (switchesOf h u) → List·Memᴰ k commands
+  unfolding commands commandsOf
+  in-switches u lu m =
+      flatMap-mem commandsOf (in-sixteen h lh)
+      (Memᴰ·append-left (Bright h ∷ Dim h ∷ []) (flatMap-mem (switchesOf h) (in-sixteen u lu) m))
+
+  in-steps : List·Memᴰ k (Bright h ∷ Dim h ∷ []) → List·Memᴰ k commands
+  unfolding commands commandsOf
+  in-steps m = flatMap-mem commandsOf (in-sixteen h lh) (Memᴰ·append-right (flatMap (switchesOf h) sixteen) m)
+
 pub in-commands : (k : RadioCommand) → commandOk k ≡ true → List·Memᴰ k commands
-unfolding commands commandsOf
-in-commands (On h u) t =
-    let p = both-below h u t in
-    flatMap-mem commandsOf (in-sixteen h (p .0)) (Memᴰ·append-left (Bright h ∷ Dim h ∷ []) (flatMap-mem (λ u. On h u ∷ Off h u ∷ []) (in-sixteen u (p .1)) (List·Memᴰ·head refl)))
-in-commands (Off h u) t =
-    let p = both-below h u t in
-    flatMap-mem commandsOf (in-sixteen h (p .0)) (Memᴰ·append-left (Bright h ∷ Dim h ∷ []) (flatMap-mem (λ u. On h u ∷ Off h u ∷ []) (in-sixteen u (p .1)) (List·Memᴰ·tail (List·Memᴰ·head refl))))
-in-commands (Bright h) t =
-    flatMap-mem commandsOf (in-sixteen h (below h t)) (Memᴰ·append-right (flatMap (λ u. On h u ∷ Off h u ∷ []) sixteen) (List·Memᴰ·head refl))
-in-commands (Dim h) t =
-    flatMap-mem commandsOf (in-sixteen h (below h t)) (Memᴰ·append-right (flatMap (λ u. On h u ∷ Off h u ∷ []) sixteen) (List·Memᴰ·tail (List·Memᴰ·head refl)))
+in-commands (On h u) t = let p = both-below h u t in in-switches h (On h u) (p .0) u (p .1) (List·Memᴰ·head refl)
+in-commands (Off h u) t = let p = both-below h u t in in-switches h (Off h u) (p .0) u (p .1) (List·Memᴰ·tail (List·Memᴰ·head refl))
+in-commands (Bright h) t = in-steps h (Bright h) (below h t) (List·Memᴰ·head refl)
+in-commands (Dim h) t = in-steps h (Dim h) (below h t) (List·Memᴰ·tail (List·Memᴰ·head refl))
 
 all-ok : everyFrom (λ i k. commandOk k) 0 commands ≡ true
 unfolding commands commandsOf flatMap sixteen
@@ -67,7 +75,7 @@ pub commands-count : length commands ≡ 544
 unfolding commands commandsOf flatMap sixteen
 commands-count = refl
 
--- a command's place in the list
+-- a command's place in the list, by its house and unit
 abbrev placeOf : RadioCommand → ℕ
 placeOf (On h u) = h * 34 + u * 2
 placeOf (Off h u) = h * 34 + u * 2 + 1
@@ -78,14 +86,13 @@ in-place : everyFrom (λ i k. eqb (placeOf k) i) 0 commands ≡ true
 unfolding commands commandsOf flatMap sixteen
 in-place = refl
 
-pub commands-one-to-one : (d : RadioCommand) (i j : ℕ) → i < 544 → j < 544 → getD commands i d ≡ getD commands j d → i ≡ j
-commands-one-to-one d i j hi hj e =
-    sym (place i hi) ∙ ap placeOf e ∙ place j hj
+pub commands-one-to-one : (d : RadioCommand) (i j : ℕ) → i < length commands → j < length commands → getD commands i d ≡ getD commands j d → i ≡ j
+commands-one-to-one d i j hi hj e = sym (place i hi) ∙ ap placeOf e ∙ place j hj
   where
-    place : (n : ℕ) → n < 544 → placeOf (getD commands n d) ≡ n
-    place n l = eqb-true (placeOf (getD commands n d)) n (every-at (λ i k. eqb (placeOf k) i) commands d n in-place (subst (λ (m : ℕ). n < m) (sym commands-count) l))
+    place : (n : ℕ) → n < length commands → placeOf (getD commands n d) ≡ n
+    place n l = eqb-true (placeOf (getD commands n d)) n (every-at (λ i k. eqb (placeOf k) i) commands d n in-place l)
 
--- ---- the command found in a list
+-- ---- the command found
 
 module _ (b c : ℕ) where
   has : (k : RadioCommand) → byteB k ≡ b → byteC k ≡ c → hasCode b c k ≡ true
@@ -96,7 +103,7 @@ module _ (b c : ℕ) where
       let p = and-eq-true-iff (eqb (byteB k) b) (eqb (byteC k) c) .0 t in
       (eqb-true (byteB k) b (p .0), eqb-true (byteC k) c (p .1))
 
-  -- what a list gives: a command of its own with this b and this c, or the refusal where it has none
+  -- what a list gives: a member that has this b and this c, or the refusal where no member has them
   data Found (ks : List RadioCommand) : Type 0 where
     one : (k : RadioCommand) → List·Memᴰ k ks → hasCode b c k ≡ true → commandIn ks b c ≡ given (k ∷ []) → Found ks
     none : ((k : RadioCommand) → List·Memᴰ k ks → hasCode b c k ≡ true → ⊥) → commandIn ks b c ≡ refused CODE → Found ks
@@ -115,7 +122,7 @@ module _ (b c : ℕ) where
           nothing j s (inl q) = true≢false (sym s ∙ ap (hasCode b c) q ∙ t)
           nothing j s (inr m) = h j m s
 
-  -- the same of all commands
+  -- the same of the list of all commands
   pub data Read : Type 0 where
     reads : (k : RadioCommand) → commandOk k ≡ true → byteB k ≡ b → byteC k ≡ c → codeAnswer b c ≡ given (k ∷ []) → Read
     refuses : ((k : RadioCommand) → commandOk k ≡ true → byteB k ≡ b → byteC k ≡ c → ⊥) → codeAnswer b c ≡ refused CODE → Read
@@ -132,8 +139,7 @@ module _ (b c : ℕ) where
   code-given k ok eb ec = go read-cases
     where
       go : Read → codeAnswer b c ≡ given (k ∷ [])
-      go (reads j okj ebj ecj e) =
-          e ∙ ap (λ x. given (x ∷ [])) (bytes-one-to-one j k okj ok (ebj ∙ sym eb) (ecj ∙ sym ec))
+      go (reads j okj ebj ecj e) = e ∙ ap (λ x. given (x ∷ [])) (bytes-one-to-one j k okj ok (ebj ∙ sym eb) (ecj ∙ sym ec))
       go (refuses h e) = absurd (h k ok eb ec)
 
   pub code-refused : ((k : RadioCommand) → commandOk k ≡ true → byteB k ≡ b → byteC k ≡ c → ⊥) → codeAnswer b c ≡ refused CODE

@@ -12,7 +12,7 @@ use Rattle.message.specs.Numbers.{CODE}
 use Rattle.radio.specs.Answers.{given, refused, codeAnswer}
 use Rattle.radio.specs.declared.RadioCommand.{RadioCommand}
 use Rattle.radio.specs.declared.RadioCommand.the-variants.{On, Off, Bright, Dim}
-use Rattle.radio.proofs.CodeLaws.{nibble-of-house, house-below, digits, unitFrom, bit}
+use Rattle.radio.proofs.CodeLaws.{nibble-of-house, house-below, bit, Bits, bits, digits, unitFrom}
 use Rattle.radio.proofs.CommandLaws.{code-given, code-refused}
 
 -- ---- the house and the unit taken out of b and c
@@ -23,55 +23,24 @@ house-again b l = ap (λ (n : ℕ). n * 16) (nibble-of-house (b / 16) (omega ari
 house-fits : (b : ℕ) → b < 256 → leb (houseOf (b / 16)) 15 ≡ true
 house-fits b l = le-leb (houseOf (b / 16)) 15 (omega (arith, house-below (b / 16) (omega arith)))
 
-module _ (e q t o : ℕ) (he : e < 2) (hq : q < 2) (ht : t < 2) (ho : o < 2) where
-  eight-of : (e * 8 + q * 4 + t * 2 + o) / 8 % 2 ≡ e
-  eight-of = omega arith
-
-  four-of : (e * 8 + q * 4 + t * 2 + o) / 4 % 2 ≡ q
-  four-of = omega arith
-
-  two-of : (e * 8 + q * 4 + t * 2 + o) / 2 % 2 ≡ t
-  two-of = omega arith
-
-  one-of : (e * 8 + q * 4 + t * 2 + o) % 2 ≡ o
-  one-of = omega arith
-
-  unit-small : e * 8 + q * 4 + t * 2 + o ≤ 15
-  unit-small = omega arith
-
-weigh : (q f o t m c : ℕ) → c ≡ m * 8 → q * 8 + f * 4 + o * 2 + t ≡ m → q * 64 + t * 8 + o * 16 + f * 32 ≡ c
-weigh q f o t m c e d = omega arith
+-- c from its four bits, as it is from the bits of c / 8
+weigh : (c q f o t : ℕ) → c % 8 ≡ 0 → q * 8 + f * 4 + o * 2 + t ≡ c / 8 → q * 64 + t * 8 + o * 16 + f * 32 ≡ c
+weigh c q f o t z d = omega arith
 
 bits-again : (c : ℕ) → c < 128 → c % 8 ≡ 0 → c / 64 % 2 * 64 + c / 8 % 2 * 8 + c / 16 % 2 * 16 + c / 32 % 2 * 32 ≡ c
 bits-again c l z =
     let e₆ : c / 8 / 8 ≡ c / 64 = omega arith in
     let e₅ : c / 8 / 4 ≡ c / 32 = omega arith in
     let e₄ : c / 8 / 2 ≡ c / 16 = omega arith in
-    weigh (c / 64 % 2) (c / 32 % 2) (c / 16 % 2) (c / 8 % 2) (c / 8) c (omega arith)
-    (simp (e₆, e₅, e₄) at (digits (c / 8) (omega arith)))
+    weigh c (c / 64 % 2) (c / 32 % 2) (c / 16 % 2) (c / 8 % 2) z (simp (e₆, e₅, e₄) at (digits (c / 8) (omega arith)))
 
 module _ (b c : ℕ) where
-  unit-fits : leb (unitFrom b c) 15 ≡ true
+  unit-bits : Bits (unitFrom b c) (b / 4 % 2) (c / 64 % 2) (c / 8 % 2) (c / 16 % 2)
   unfolding unitFrom
-  unit-fits =
-      le-leb (unitFrom b c) 15
-      (unit-small (b / 4 % 2) (c / 64 % 2) (c / 8 % 2) (c / 16 % 2) (bit (b / 4)) (bit (c / 64)) (bit (c / 8)) (bit (c / 16)))
+  unit-bits = bits (unitFrom b c) (b / 4 % 2) (c / 64 % 2) (c / 8 % 2) (c / 16 % 2) (bit (b / 4)) (bit (c / 64)) (bit (c / 8)) (bit (c / 16)) refl
 
-  unit-again-b : unitInB (unitFrom b c) ≡ b / 4 % 2 * 4
-  unfolding unitFrom
-  unit-again-b =
-      ap (λ (n : ℕ). n * 4)
-      (eight-of (b / 4 % 2) (c / 64 % 2) (c / 8 % 2) (c / 16 % 2) (bit (b / 4)) (bit (c / 64)) (bit (c / 8)) (bit (c / 16)))
-
-  unit-again-c : c < 128 → c % 8 ≡ 0 → unitInC (unitFrom b c) + c / 32 % 2 * 32 ≡ c
-  unfolding unitFrom
-  unit-again-c l z =
-      simp (
-        four-of (b / 4 % 2) (c / 64 % 2) (c / 8 % 2) (c / 16 % 2) (bit (b / 4)) (bit (c / 64)) (bit (c / 8)) (bit (c / 16)),
-        two-of (b / 4 % 2) (c / 64 % 2) (c / 8 % 2) (c / 16 % 2) (bit (b / 4)) (bit (c / 64)) (bit (c / 8)) (bit (c / 16)),
-        one-of (b / 4 % 2) (c / 64 % 2) (c / 8 % 2) (c / 16 % 2) (bit (b / 4)) (bit (c / 64)) (bit (c / 8)) (bit (c / 16)),
-      )
-      (bits-again c l z)
+  unit-again : c < 128 → c % 8 ≡ 0 → unitInC (unitFrom b c) + c / 32 % 2 * 32 ≡ c
+  unit-again l z = simp (unit-bits .four, unit-bits .two, unit-bits .one) (bits-again c l z)
 
 -- ---- what the definition gives, by the tests that the reader makes
 
@@ -84,20 +53,20 @@ module _ (b c : ℕ) (small : b < 256) where
 
   module _ (low : c < 128) (pb : b % 16 ≡ b / 4 % 2 * 4) (pc : c % 8 ≡ 0) where
     fits : (leb (houseOf (b / 16)) 15 && leb (unitFrom b c) 15) ≡ true
-    fits = simp (house-fits b small, unit-fits b c)
+    fits = simp (house-fits b small, le-leb (unitFrom b c) 15 (unit-bits b c .small))
 
     b-again : houseInB (houseOf (b / 16)) + unitInB (unitFrom b c) ≡ b
-    b-again = simp (house-again b small, unit-again-b b c) (omega arith)
+    b-again = simp (house-again b small, unit-bits b c .eight) (omega arith)
 
     pub on-read : c / 32 % 2 ≡ 0 → codeAnswer b c ≡ given (On (houseOf (b / 16)) (unitFrom b c) ∷ [])
     on-read z =
         code-given b c (On (houseOf (b / 16)) (unitFrom b c)) fits b-again
-        (omega (arith, unit-again-c b c low pc))
+        (omega (arith, unit-again b c low pc))
 
     pub off-read : (c / 32 % 2 ≡ 0 → ⊥) → codeAnswer b c ≡ given (Off (houseOf (b / 16)) (unitFrom b c) ∷ [])
     off-read z =
         code-given b c (Off (houseOf (b / 16)) (unitFrom b c)) fits b-again
-        (omega (arith, unit-again-c b c low pc))
+        (omega (arith, unit-again b c low pc))
 
 module _ (b c : ℕ) where
   pub no-step : 127 < c → (b % 16 ≡ 0 → (c ≡ 136) ⊎ (c ≡ 152) → ⊥) → codeAnswer b c ≡ refused CODE

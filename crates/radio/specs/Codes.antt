@@ -54,14 +54,18 @@ commandOk (Off h u) = leb h 15 && leb u 15
 commandOk (Bright h) = leb h 15
 commandOk (Dim h) = leb h 15
 
+-- the numbers of the houses, and of the units
 unfoldable pub sixteen : List ℕ
 sixteen = 0 ∷ 1 ∷ 2 ∷ 3 ∷ 4 ∷ 5 ∷ 6 ∷ 7 ∷ 8 ∷ 9 ∷ 10 ∷ 11 ∷ 12 ∷ 13 ∷ 14 ∷ 15 ∷ []
 
--- the commands of a house: on and off of each unit, bright and dim
-unfoldable pub commandsOf : ℕ → List RadioCommand
-commandsOf h = flatMap (λ u. On h u ∷ Off h u ∷ []) sixteen ++ (Bright h ∷ Dim h ∷ [])
+-- the commands of a house: on and off for each unit, bright and dim
+abbrev pub switchesOf : ℕ → ℕ → List RadioCommand
+switchesOf h u = On h u ∷ Off h u ∷ []
 
--- "There are 544 codes": the commands of all houses, and their codes
+unfoldable pub commandsOf : ℕ → List RadioCommand
+commandsOf h = flatMap (switchesOf h) sixteen ++ (Bright h ∷ Dim h ∷ [])
+
+-- "There are 544 codes": all commands, house after house, and their codes
 unfoldable pub commands : List RadioCommand
 commands = flatMap commandsOf sixteen
 

@@ -170,6 +170,17 @@ fn switch_of(b: u8, c: u8) -> RadioRead
     }
 }
 
+// The command that b and c name.
+fn command_of(b: u8, c: u8) -> RadioRead
+    ensures { λ r. ⌜ answerOfRead r ≡ codeAnswer b c ⌝ }
+{
+    if c < 128 {
+        switch_of(b, c)
+    } else {
+        step_of(b, c)
+    }
+}
+
 // The command that four bytes name.
 pub fn read(code: &[u8]) -> RadioRead
     ensures { λ r. ⌜ answerOfRead r ≡ readAnswer (now (code .entry)) ⌝ }
@@ -185,11 +196,7 @@ pub fn read(code: &[u8]) -> RadioRead
     if code[3] != 255 - c {
         return RadioRead::RefusedComplement;
     }
-    if c < 128 {
-        switch_of(b, c)
-    } else {
-        step_of(b, c)
-    }
+    command_of(b, c)
 }
 
 // The messages of a command: an address and then on or off; or bright or dim alone.

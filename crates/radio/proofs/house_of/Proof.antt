@@ -1,26 +1,24 @@
+-- `house_of` meets its contract: at each of the sixteen the constant table has the place of the four bits among the houses', which
+-- one computed test shows.
 use mathlib.Core.Path.{refl}
 use mathlib.Core.List.{List, [], _∷_}
 use Prim.Native.Nat.{ℕ}
+use borrow.Author.Needs.{needs}
 use borrow.Author.Tests.{eqb-true}
 use lib.Dec.{eqb}
 use lib.ListN.{getD}
 use Rattle.message.specs.Codes.{placeIn}
 use Rattle.message.proofs.Tables.{every-at}
 use Rattle.radio.specs.Codes.{houseOf, houseNibbles}
-use borrow.Author.Needs.{needs}
 use Rattle.radio.proofs.house_of.Statement.{statement}
 use Rattle.radio.proofs.house_of.Tie as tie
-use Rattle.radio.proofs.house_of.Reads as reads
-use Rattle.radio.proofs.house_of.Lts as lts
 
--- src/lib.rt:65:5
 nibbleHouses : List ℕ
 nibbleHouses = 12 ∷ 13 ∷ 14 ∷ 15 ∷ 2 ∷ 3 ∷ 0 ∷ 1 ∷ 4 ∷ 5 ∷ 6 ∷ 7 ∷ 10 ∷ 11 ∷ 8 ∷ 9 ∷ []
 
 array-read-result : tie.Need-array-read-result
 array-read-result c = search needs
 
--- src/lib.rt:60:1
 returns : tie.Need-returns
 unfolding houseOf placeIn houseNibbles nibbleHouses
 returns c =

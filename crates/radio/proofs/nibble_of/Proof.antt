@@ -1,22 +1,18 @@
+-- `nibble_of` meets its contract: the constant table is the definition's, and past its end both give 0.
 use mathlib.Core.Path.{refl, sym}
+use borrow.Author.Needs.{needs}
 use lib.ListN.{List·getD-eq-default}
 use Rattle.radio.specs.Codes.{nibbleOf, houseNibbles}
-use borrow.Author.Needs.{needs}
 use Rattle.radio.proofs.nibble_of.Statement.{statement}
 use Rattle.radio.proofs.nibble_of.Tie as tie
-use Rattle.radio.proofs.nibble_of.Reads as reads
-use Rattle.radio.proofs.nibble_of.Lts as lts
 
--- src/lib.rt:56:17
 array-read-result : tie.Need-array-read-result
 array-read-result c = search needs
 
--- src/lib.rt:52:1
 returns : tie.Need-returns
 unfolding nibbleOf houseNibbles
 returns c = refl
 
--- src/lib.rt:52:1
 returns-2 : tie.Need-returns-2
 unfolding nibbleOf houseNibbles
 returns-2 c = sym (List·getD-eq-default houseNibbles 0 (c .if1 .left))

@@ -1,13 +1,11 @@
--- `step_of` meets its contract: of the commands with c at 128 or more, bright and dim, each has b's low four bits 0.
+-- `step_of` meets its contract: of the commands with c at 128 or more, bright and dim, each has b's low four bits 0, and where they
+-- are 0 the house taken out of b makes b again.
 use mathlib.Core.Path.{sym}
 use mathlib.Core.Logic.{⊎-elim}
 use borrow.Author.Needs.{needs}
 use Rattle.radio.proofs.ReaderLaws.{bright-read, dim-read, no-step}
 use Rattle.radio.proofs.step_of.Statement.{statement}
 use Rattle.radio.proofs.step_of.Tie as tie
-use Rattle.radio.proofs.step_of.Reads as reads
-use Rattle.radio.proofs.step_of.Lts as lts
-use Rattle.radio.proofs.house_of.Reads as house-of-reads
 
 returns : tie.Need-returns
 returns c = let s = c .before in sym (no-step (s .args .b) (s .args .c) (s .pre) (λ z e. c .if1 .taken z))
