@@ -5,7 +5,7 @@
 --     codes-count, codes-one-to-one, codes-read, codes-only      the list of codes is the codes read
 --     all-valid                          the messages of a valid command are valid
 use mathlib.Core.Path.{_≡_, refl, sym, ap, subst, _∙_}
-use mathlib.Core.Bool.{Bool, true, false, _&&_, and-eq-true-iff}
+use mathlib.Core.Bool.{Bool, true, false, and-eq-true-iff}
 use mathlib.Core.List.{List, [], _∷_, List·Memᴰ, Memᴰ·map, Memᴰ·of-map, Memᴰ·cast, head-eq-of-cons-eq}
 use Prim.Native.Nat.{ℕ, _-_, _<_}
 use native.Mathlib.Omega.{arith}
