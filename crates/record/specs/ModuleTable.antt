@@ -180,9 +180,13 @@ stepHouse (suc n) a h t =
     let i = h * UNITS + n in
     put s i (stepRecord a n (recordAt s i))
 
--- the sixteen records of the message's house, and its house byte; nothing where it is not carried
+-- an act run for a house: its sixteen records, and then its house byte
+unfoldable pub runAct : Act → ℕ → ℕ → List ℕ → List ℕ
+runAct a h heard t = set (stepHouse UNITS a h t) (HEARD-AT + h) heard
+
+-- a message carried out; nothing where it is not carried
 abbrev pub carriedOut : Message → Plan → List ℕ → List ℕ
-carriedOut m (Run a) t = set (stepHouse UNITS a (houseOf m) t) (HEARD-AT + houseOf m) (heardAfter (heardAt t (houseOf m)) m)
+carriedOut m (Run a) t = runAct a (houseOf m) (heardAfter (heardAt t (houseOf m)) m) t
 carriedOut m NotCarried t = t
 
 -- "The result counts the records whose level differs before and after.": among the first n
