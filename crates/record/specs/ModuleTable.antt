@@ -39,14 +39,17 @@ recordOk r =
     leb (r .kind) 2 && levelOk r (r .level) && leb (r .addressed) 1 && leb (r .mask) 15
     && groupOk 0 r && groupOk 1 r && groupOk 2 r && groupOk 3 r && (present r || allZeros r)
 
--- the first n records keep the rules; the first n "House bytes are 0 or 1."
-unfoldable pub recordsOk : ℕ → List ℕ → Bool
-recordsOk zero t = true
-recordsOk (suc n) t = recordsOk n t && recordOk (recordAt t n)
+-- a test at every number below n
+unfoldable pub allBelow : ℕ → (ℕ → Bool) → Bool
+allBelow zero f = true
+allBelow (suc n) f = allBelow n f && f n
 
-unfoldable pub housesOk : ℕ → List ℕ → Bool
-housesOk zero t = true
-housesOk (suc n) t = housesOk n t && leb (heardAt t n) 1
+-- each record keeps the rules; "House bytes are 0 or 1."
+abbrev pub recordsOk : ℕ → List ℕ → Bool
+recordsOk n t = allBelow n (λ i. recordOk (recordAt t i))
+
+abbrev pub housesOk : ℕ → List ℕ → Bool
+housesOk n t = allBelow n (λ h. leb (heardAt t h) 1)
 
 unfoldable pub tableOk : List ℕ → Bool
 tableOk t = eqb (length t) TABLE-BYTES && recordsOk RECORDS t && housesOk HOUSES t

@@ -4,7 +4,7 @@ use Prim.Native.Nat.{ℕ, _≤_, _-_}
 use native.Mathlib.Omega.{arith}
 use native.Mathlib.Numerals.{add-one}
 use Rattle.record.specs.Layout.{HOUSES}
-use Rattle.record.specs.ModuleTable.{housesOk}
+use Rattle.record.specs.ModuleTable.{allBelow, housesOk}
 use Rattle.table.proofs.houses_ok.Statement.{statement}
 use Rattle.table.proofs.houses_ok.Tie as tie
 
@@ -15,7 +15,7 @@ abbrev μ-loop : tie.MeasureT-loop
 μ-loop t ok₀ h₀ ok h = HOUSES - h
 
 loop-holds : tie.Need-loop-holds Inv-loop μ-loop
-unfolding housesOk
+unfolding allBelow
 loop-holds c = (omega arith, refl)
 
 add-ok : tie.Need-add-ok Inv-loop μ-loop
@@ -31,7 +31,7 @@ loop-less : tie.Need-loop-less Inv-loop μ-loop
 loop-less c = omega arith
 
 loop-again : tie.Need-loop-again Inv-loop μ-loop
-unfolding housesOk
+unfolding allBelow
 loop-again c = (omega arith, simp (add-one, c .before .before .loop .inv .1))
 
 returns : tie.Need-returns Inv-loop μ-loop

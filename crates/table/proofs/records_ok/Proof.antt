@@ -5,7 +5,7 @@ use borrow.Author.Needs.{needs}
 use native.Mathlib.Omega.{arith}
 use native.Mathlib.Numerals.{add-one}
 use Rattle.record.specs.Layout.{RECORDS}
-use Rattle.record.specs.ModuleTable.{recordsOk}
+use Rattle.record.specs.ModuleTable.{allBelow, recordsOk}
 use Rattle.table.proofs.records_ok.Statement.{statement}
 use Rattle.table.proofs.records_ok.Tie as tie
 
@@ -16,7 +16,7 @@ abbrev μ-loop : tie.MeasureT-loop
 μ-loop t ok₀ i₀ ok i = RECORDS - i
 
 loop-holds : tie.Need-loop-holds Inv-loop μ-loop
-unfolding recordsOk
+unfolding allBelow
 loop-holds c = (omega arith, refl)
 
 load-requires : tie.Need-load-requires Inv-loop μ-loop
@@ -32,7 +32,7 @@ loop-less : tie.Need-loop-less Inv-loop μ-loop
 loop-less c = omega arith
 
 loop-again : tie.Need-loop-again Inv-loop μ-loop
-unfolding recordsOk
+unfolding allBelow
 loop-again c =
     (omega arith, simp (add-one, c .before .before .before .loop .inv .1, c .valid .ensures, c .before .load .ensures))
 
