@@ -1,0 +1,171 @@
+-- Laws of the bench, station by station: what one call leaves in a slot and marks DONE, and what the line says of those that send.
+--
+--     ok-all, ok-each              the n stations, or draws, are right as each of them is
+--     length-moved, moved, marked  each station after the line's half-cycle, and its mark
+--     line-above, line-some        the line is no less than what a station sends; it is 0, or what some station sends
+--     BenchRight, bench-turns      a call that is not refused, as these say
+--     bench-refuses                a call that its draws refuse
+use mathlib.Core.Path.{_≡_, refl, sym, ap, ap₂, _∙_}
+use mathlib.Core.Logic.{_⊎_, inl, inr}
+use mathlib.Core.Bool.{Bool, true, false, _&&_, and-eq-true-iff}
+use mathlib.Core.List.{List, [], _∷_, _++_}
+use Prim.Native.Nat.{ℕ, zero, suc, _+_, _-_, _≤_, _<_, max, zero-le, suc-le-suc}
+use native.Mathlib.Nat.{le-of-suc-le-suc, not-suc-le-zero}
+use native.Mathlib.Decide.{decLe}
+use native.Mathlib.Omega.{arith}
+use borrow.Author.Tests.{le-leb}
+use lib.Dec.{leb}
+use lib.ListN.{length, getD, take, drop, replicate, length-append, List·getD-append}
+use lib.Seq.{length-take-le, length-front, drop-at, getD-take}
+use Rattle.message.specs.Choice.{pick}
+use Rattle.station.specs.declared.Station.{Station}
+use Rattle.station.specs.declared.Turn.{Turn}
+use Rattle.station.specs.Stations.{emptyStation, stationOk, drawOk, sendsOf, turnOf, isDone}
+use Rattle.bench.specs.Benches.{mostStations, lineOf, moveAll, doneAll, stationsOk, drawsOk, benchOk, turnAll, benchOf}
+use Rattle.bench.specs.declared.BenchAnswer.the-variants.{Line, RefusedDraw}
+use Rattle.bench.specs.declared.BenchTurn.{BenchTurn}
+
+-- ---- lists of stations and draws
+
+ok-all : (ss : List Station) → ((i : ℕ) → i < length ss → stationOk (getD ss i emptyStation) ≡ true) → stationsOk ss ≡ true
+unfolding stationsOk
+ok-all [] ok = refl
+ok-all (s ∷ ss) ok = rw (ok 0 (suc-le-suc zero-le)) (ok-all ss (λ i h. ok (suc i) (suc-le-suc h)))
+
+ok-each : (ds : List ℕ) → drawsOk ds ≡ true → (i : ℕ) → i < length ds → drawOk (getD ds i 0) ≡ true
+unfolding drawsOk
+ok-each [] ok i h = absurd (not-suc-le-zero h)
+ok-each (d ∷ ds) ok zero h = and-eq-true-iff (drawOk d) (drawsOk ds) .0 ok .0
+ok-each (d ∷ ds) ok (suc i) h = ok-each ds (and-eq-true-iff (drawOk d) (drawsOk ds) .0 ok .1) i (le-of-suc-le-suc h)
+
+module _ (line : ℕ) where
+  -- the turn of the station at a place, with the draw at that place
+  abbrev turnAt : List Station → List ℕ → ℕ → Turn
+  turnAt ss ds i = turnOf (getD ss i emptyStation) line (getD ds i 0)
+
+  length-moved : (ss : List Station) (ds : List ℕ) → length (moveAll line ss ds) ≡ length ss
+  unfolding moveAll
+  length-moved [] ds = refl
+  length-moved (s ∷ ss) [] = refl
+  length-moved (s ∷ ss) (d ∷ ds) = ap suc (length-moved ss ds)
+
+  length-marked : (ss : List Station) (ds : List ℕ) → length (doneAll line ss ds) ≡ length ss
+  unfolding doneAll
+  length-marked [] ds = refl
+  length-marked (s ∷ ss) [] = ap suc (length-marked ss [])
+  length-marked (s ∷ ss) (d ∷ ds) = ap suc (length-marked ss ds)
+
+  moved : (ss : List Station) (ds : List ℕ) (i : ℕ) → i < length ss → i < length ds
+      → getD (moveAll line ss ds) i emptyStation ≡ turnAt ss ds i .next
+  unfolding moveAll
+  moved [] ds i h k = absurd (not-suc-le-zero h)
+  moved (s ∷ ss) [] i h k = absurd (not-suc-le-zero k)
+  moved (s ∷ ss) (d ∷ ds) zero h k = refl
+  moved (s ∷ ss) (d ∷ ds) (suc i) h k = moved ss ds i (le-of-suc-le-suc h) (le-of-suc-le-suc k)
+
+  marked : (ss : List Station) (ds : List ℕ) (i : ℕ) → i < length ss → i < length ds
+      → getD (doneAll line ss ds) i false ≡ isDone (turnAt ss ds i .answer)
+  unfolding doneAll
+  marked [] ds i h k = absurd (not-suc-le-zero h)
+  marked (s ∷ ss) [] i h k = absurd (not-suc-le-zero k)
+  marked (s ∷ ss) (d ∷ ds) zero h k = refl
+  marked (s ∷ ss) (d ∷ ds) (suc i) h k = marked ss ds i (le-of-suc-le-suc h) (le-of-suc-le-suc k)
+
+-- ---- the line
+
+line-above : (ss : List Station) (i : ℕ) → i < length ss → sendsOf (getD ss i emptyStation) ≤ lineOf ss
+unfolding lineOf
+line-above [] i h = absurd (not-suc-le-zero h)
+line-above (s ∷ ss) zero h = omega arith
+line-above (s ∷ ss) (suc i) h = omega (arith, line-above ss i (le-of-suc-le-suc h))
+
+-- 0, or what some station sends
+line-some : (ss : List Station) → (lineOf ss ≡ 0) ⊎ ((i : ℕ) × (i < length ss) × (sendsOf (getD ss i emptyStation) ≡ lineOf ss))
+unfolding lineOf
+line-some [] = inl refl
+line-some (s ∷ ss) = go (decLe (sendsOf s) (lineOf ss)) (line-some ss)
+  where
+    go : Dec (sendsOf s ≤ lineOf ss) → (lineOf ss ≡ 0) ⊎ ((i : ℕ) × (i < length ss) × (sendsOf (getD ss i emptyStation) ≡ lineOf ss))
+        → (max (sendsOf s) (lineOf ss) ≡ 0)
+        ⊎ ((i : ℕ) × (i < suc (length ss)) × (sendsOf (getD (s ∷ ss) i emptyStation) ≡ max (sendsOf s) (lineOf ss)))
+    go (no h) t = inr (0, suc-le-suc zero-le, omega arith)
+    go (yes h) (inl e) = inl (omega arith)
+    go (yes h) (inr (i, k, e)) = inr (suc i, suc-le-suc k, omega arith)
+
+-- ---- one call
+
+module _ (n : ℕ) (slots : List Station) (draws : List ℕ) where
+  abbrev pub lineNow : ℕ
+  lineNow = lineOf (take n slots)
+
+  -- station i's turn at the line's half-cycle
+  abbrev pub turnNow : ℕ → Turn
+  turnNow i = turnOf (getD slots i emptyStation) lineNow (getD draws i 0)
+
+  -- a call that is not refused
+  pub record Turns (t : BenchTurn) : Type 0 where
+    pub answers : t .answer ≡ Line lineNow
+    pub same : length (t .slots) ≡ length slots
+    pub past : drop n (t .slots) ≡ drop n slots
+    pub next : (i : ℕ) → i < n → getD (t .slots) i emptyStation ≡ turnNow i .next
+    pub mark : (i : ℕ) → i < n → getD (t .done) i false ≡ isDone (turnNow i .answer)
+    pub draw : (i : ℕ) → i < n → drawOk (getD draws i 0) ≡ true
+    pub above : (i : ℕ) → i < n → sendsOf (getD slots i emptyStation) ≤ lineNow
+    pub some : (lineNow ≡ 0) ⊎ ((i : ℕ) × (i < n) × (sendsOf (getD slots i emptyStation) ≡ lineNow))
+
+  module _ (low : 1 ≤ n) (high : n ≤ mostStations) (room : n ≤ length slots) (ok : (i : ℕ) → i < n → stationOk (getD slots i emptyStation) ≡ true) where
+    count : length (take n slots) ≡ n
+    count = length-take-le n slots room
+
+    bench-ok : benchOk n slots ≡ true
+    unfolding benchOk
+    bench-ok =
+        simp (
+          le-leb 1 n low,
+          le-leb n mostStations high,
+          ok-all (take n slots) (λ i h. let k : i < n = omega (arith, count) in rw (getD-take n slots i emptyStation k) (ok i k)),
+        )
+
+    pub bench-refuses : drawsOk (take n draws) ≡ false → benchOf n slots draws ≡ record { answer = RefusedDraw; done = replicate (length slots) false; slots = slots }
+    unfolding benchOf
+    bench-refuses e = simp (bench-ok, e)
+
+    module _ (enough : n ≤ length draws) (fine : drawsOk (take n draws) ≡ true) where
+      drawn : length (take n draws) ≡ n
+      drawn = length-take-le n draws enough
+
+      taken-turn : (i : ℕ) → i < n → turnOf (getD (take n slots) i emptyStation) lineNow (getD (take n draws) i 0) ≡ turnNow i
+      taken-turn i h = rw (getD-take n slots i emptyStation h, getD-take n draws i 0 h)
+
+      some-sends : (lineNow ≡ 0) ⊎ ((i : ℕ) × (i < length (take n slots)) × (sendsOf (getD (take n slots) i emptyStation) ≡ lineNow))
+          → (lineNow ≡ 0) ⊎ ((i : ℕ) × (i < n) × (sendsOf (getD slots i emptyStation) ≡ lineNow))
+      some-sends (inl e) = inl e
+      some-sends (inr (i, h, e)) =
+          let k : i < n = omega (arith, count) in
+          inr (i, k, rw (getD-take n slots i emptyStation k) at e)
+
+      turn-right : Turns (turnAll n slots draws)
+      unfolding turnAll
+      turn-right =
+          let moves = length-moved lineNow (take n slots) (take n draws) in
+          let marks = length-marked lineNow (take n slots) (take n draws) in
+          record {
+            answers = refl;
+            same = length-front slots (moveAll lineNow (take n slots) (take n draws)) n moves;
+            past = drop-at (moveAll lineNow (take n slots) (take n draws)) (drop n slots) n (moves ∙ count);
+            next = λ i h.
+              List·getD-append (moveAll lineNow (take n slots) (take n draws)) (drop n slots) emptyStation i (omega (arith, moves, count))
+              ∙ moved lineNow (take n slots) (take n draws) i (omega (arith, count)) (omega (arith, drawn))
+              ∙ ap (λ (t : Turn). t .next) (taken-turn i h);
+            mark = λ i h.
+              List·getD-append (doneAll lineNow (take n slots) (take n draws)) _ false i (omega (arith, marks, count))
+              ∙ marked lineNow (take n slots) (take n draws) i (omega (arith, count)) (omega (arith, drawn))
+              ∙ ap (λ (t : Turn). isDone (t .answer)) (taken-turn i h);
+            draw = λ i h. rw (getD-take n draws i 0 h) at (ok-each (take n draws) fine i (omega (arith, drawn)));
+            above = λ i h. rw (getD-take n slots i emptyStation h) at (line-above (take n slots) i (omega (arith, count)));
+            some = some-sends (line-some (take n slots));
+          }
+
+      pub bench-turns : Turns (benchOf n slots draws)
+      unfolding benchOf
+      bench-turns = simp (bench-ok, fine) turn-right
