@@ -1,1 +1,5 @@
 pub mod BenchLaws
+pub mod BurstLaws
+pub mod Turns
+pub mod Standing
+pub mod PartHeard

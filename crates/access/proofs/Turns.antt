@@ -1,0 +1,88 @@
+-- One half-cycle of a station, for each way a station stands: empty, waiting, sending.
+--
+--     holding                       a station that holds a message
+--     accepted-message, accepted-draw, accepted-station     what loading has accepted, and left
+--     empty-ok, waiting-ok, sending-ok          such a station is in a state of 01
+--     empty-sends, waiting-sends, sending-sends     what it sends
+--     empty-turn, waiting-turn, sending-turn    what a half-cycle makes of it
+use mathlib.Core.Path.{_≡_, refl, sym, ap, ap₂, _∙_}
+use mathlib.Core.Bool.{Bool, true, false, _&&_, _||_, and-eq-true-iff, or-true}
+use Prim.Native.Nat.{ℕ, zero, suc, _+_, _≤_, _<_}
+use native.Mathlib.Omega.{arith}
+use borrow.Author.Tests.{le-leb, lt-ltb, eq-eqb, ne-eqb, leb-true}
+use lib.Dec.{eqb, leb, ltb}
+use lib.ListN.{getD}
+use Rattle.message.specs.Choice.{pick}
+use Rattle.message.specs.Messages.{messageOk}
+use Rattle.message.specs.declared.Message.{Message}
+use Rattle.burst.specs.Frames.{burstOf, burstLength}
+use Rattle.station.specs.declared.Held.the-variants.{Empty, Holds}
+use Rattle.station.specs.declared.Station.{Station}
+use Rattle.station.specs.declared.LoadAnswer.{LoadAnswer}
+use Rattle.station.specs.declared.LoadAnswer.the-variants as load
+use Rattle.station.specs.declared.Loading.{Loading}
+use Rattle.station.specs.declared.TurnAnswer.the-variants.{Going}
+use Rattle.station.specs.declared.Turn.{Turn}
+use Rattle.station.specs.Stations.{emptyStation, loadNumber, drawOk, stationOk, loaded, loadOf, sendsOf, waits, sending, turnOf}
+use Rattle.access.proofs.BurstLaws.{burst-some}
+
+abbrev pub holding : Message → ℕ → ℕ → ℕ → Station
+holding m w c p = record { held = Holds m; wait = w; count = c; place = p }
+
+abbrev pub goes : Station → Turn
+goes s = record { answer = Going; next = s }
+
+pub drawn : (d : ℕ) → drawOk d ≡ true → (8 ≤ d) × (d ≤ 10)
+drawn d e =
+    let t = and-eq-true-iff (leb 8 d) (leb d 10) .0 e in
+    (leb-true 8 d (t .0), leb-true d 10 (t .1))
+
+-- ---- loading
+
+pub record Accepted (m : Message) (d : ℕ) : Type 0 where
+  pub valid : messageOk m ≡ true
+  pub wait : drawOk d ≡ true
+  pub fresh : loadOf emptyStation m d .next ≡ loaded m d
+
+pub accepted : (m : Message) (d : ℕ) → loadOf emptyStation m d .answer ≡ load.Loaded → Accepted m d
+unfolding loadOf stationOk
+accepted m d e = go (messageOk m) (drawOk d) refl refl
+  where
+    go : (s t : Bool) → messageOk m ≡ s → drawOk d ≡ t → Accepted m d
+    go true true p q = record { valid = p; wait = q; fresh = simp (p, q) }
+    go true false p q = absurd (omega (arith, simp (p, q) at (ap loadNumber e)))
+    go false t p q = absurd (omega (arith, simp p at (ap loadNumber e)))
+
+-- ---- one half-cycle
+
+pub empty-turn : (h d : ℕ) → h ≤ 1 → drawOk d ≡ true → turnOf emptyStation h d ≡ goes emptyStation
+unfolding turnOf stationOk sendsOf
+empty-turn h d low draw = simp (le-leb h 1 low, draw, le-leb 0 h (omega arith))
+
+module _ (m : Message) (w : ℕ) (valid : messageOk m ≡ true) (wait : drawOk w ≡ true) where
+  pub waiting-ok : (c : ℕ) → c ≤ w → stationOk (holding m w c 0) ≡ true
+  unfolding stationOk
+  waiting-ok c l = simp (wait, le-leb c w l, lt-ltb 0 (burstLength m) (omega (arith, burst-some m)), valid)
+
+  pub sending-ok : (k : ℕ) → k < burstLength m → stationOk (holding m w w k) ≡ true
+  unfolding stationOk
+  sending-ok k l = simp (wait, le-leb w w (omega arith), lt-ltb k (burstLength m) l, or-true (eqb k 0), valid)
+
+  pub waiting-sends : (c : ℕ) → c < w → sendsOf (holding m w c 0) ≡ 0
+  unfolding sendsOf
+  waiting-sends c l = simp (ne-eqb c w (λ e. omega arith))
+
+  pub sending-sends : (k : ℕ) → sendsOf (holding m w w k) ≡ getD (burstOf m) k 0
+  unfolding sendsOf
+  sending-sends k = simp (eq-eqb w w refl)
+
+  module _ (h d : ℕ) (low : h ≤ 1) (draw : drawOk d ≡ true) where
+    pub waiting-turn : (c : ℕ) → c < w → turnOf (holding m w c 0) h d ≡ goes (waits m w c h d)
+    unfolding turnOf
+    waiting-turn c l =
+        simp (le-leb h 1 low, waiting-ok c (omega arith), draw, waiting-sends c l, le-leb 0 h (omega arith), ne-eqb c w (λ e. omega arith))
+
+    pub sending-turn : (k : ℕ) → k < burstLength m → getD (burstOf m) k 0 ≤ h → turnOf (holding m w w k) h d ≡ sending m w w k h d
+    unfolding turnOf
+    sending-turn k l u =
+        simp (le-leb h 1 low, sending-ok k l, draw, sending-sends k, le-leb (getD (burstOf m) k 0) h u, eq-eqb w w refl)
