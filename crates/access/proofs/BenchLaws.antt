@@ -3,7 +3,7 @@
 --     ok-all, ok-each              the n stations, or draws, are right as each of them is
 --     length-moved, moved, marked  each station after the line's half-cycle, and its mark
 --     line-above, line-some        the line is no less than what a station sends; it is 0, or what some station sends
---     BenchRight, bench-turns      a call that is not refused, as these say
+--     Turns, bench-turns           a call that is not refused, as these say
 --     bench-refuses                a call that its draws refuse
 use mathlib.Core.Path.{_≡_, refl, sym, ap, ap₂, _∙_}
 use mathlib.Core.Logic.{_⊎_, inl, inr}
@@ -40,7 +40,7 @@ ok-each (d ∷ ds) ok (suc i) h = ok-each ds (and-eq-true-iff (drawOk d) (drawsO
 
 module _ (line : ℕ) where
   -- the turn of the station at a place, with the draw at that place
-  abbrev turnAt : List Station → List ℕ → ℕ → Turn
+  abbrev pub turnAt : List Station → List ℕ → ℕ → Turn
   turnAt ss ds i = turnOf (getD ss i emptyStation) line (getD ds i 0)
 
   length-moved : (ss : List Station) (ds : List ℕ) → length (moveAll line ss ds) ≡ length ss
@@ -94,78 +94,76 @@ line-some (s ∷ ss) = go (decLe (sendsOf s) (lineOf ss)) (line-some ss)
 
 -- ---- one call
 
-module _ (n : ℕ) (slots : List Station) (draws : List ℕ) where
-  abbrev pub lineNow : ℕ
-  lineNow = lineOf (take n slots)
+-- what a call that is not refused gives and leaves, h being the line's half-cycle
+pub record Turns (n : ℕ) (slots : List Station) (draws : List ℕ) (h : ℕ) (t : BenchTurn) : Type 0 where
+  pub answers : t .answer ≡ Line h
+  pub same : length (t .slots) ≡ length slots
+  pub beyond : drop n (t .slots) ≡ drop n slots
+  pub next : (i : ℕ) → i < n → getD (t .slots) i emptyStation ≡ turnAt h slots draws i .next
+  pub says : (i : ℕ) → i < n → getD (t .done) i false ≡ isDone (turnAt h slots draws i .answer)
+  pub draw : (i : ℕ) → i < n → drawOk (getD draws i 0) ≡ true
+  pub above : (i : ℕ) → i < n → sendsOf (getD slots i emptyStation) ≤ h
+  pub some : (h ≡ 0) ⊎ ((i : ℕ) × (i < n) × (sendsOf (getD slots i emptyStation) ≡ h))
 
-  -- station i's turn at the line's half-cycle
-  abbrev pub turnNow : ℕ → Turn
-  turnNow i = turnOf (getD slots i emptyStation) lineNow (getD draws i 0)
+module _ (n : ℕ) (slots : List Station) (draws : List ℕ) (low : 1 ≤ n) (high : n ≤ mostStations) (room : n ≤ length slots)
+    (ok : (i : ℕ) → i < n → stationOk (getD slots i emptyStation) ≡ true) where
+  count : length (take n slots) ≡ n
+  count = length-take-le n slots room
 
-  -- a call that is not refused
-  pub record Turns (t : BenchTurn) : Type 0 where
-    pub answers : t .answer ≡ Line lineNow
-    pub same : length (t .slots) ≡ length slots
-    pub past : drop n (t .slots) ≡ drop n slots
-    pub next : (i : ℕ) → i < n → getD (t .slots) i emptyStation ≡ turnNow i .next
-    pub mark : (i : ℕ) → i < n → getD (t .done) i false ≡ isDone (turnNow i .answer)
-    pub draw : (i : ℕ) → i < n → drawOk (getD draws i 0) ≡ true
-    pub above : (i : ℕ) → i < n → sendsOf (getD slots i emptyStation) ≤ lineNow
-    pub some : (lineNow ≡ 0) ⊎ ((i : ℕ) × (i < n) × (sendsOf (getD slots i emptyStation) ≡ lineNow))
+  bench-ok : benchOk n slots ≡ true
+  unfolding benchOk
+  bench-ok =
+      simp (
+        le-leb 1 n low,
+        le-leb n mostStations high,
+        ok-all (take n slots) (λ i h. let k : i < n = omega (arith, count) in rw (getD-take n slots i emptyStation k) (ok i k)),
+      )
 
-  module _ (low : 1 ≤ n) (high : n ≤ mostStations) (room : n ≤ length slots) (ok : (i : ℕ) → i < n → stationOk (getD slots i emptyStation) ≡ true) where
-    count : length (take n slots) ≡ n
-    count = length-take-le n slots room
+  pub bench-refuses : drawsOk (take n draws) ≡ false → benchOf n slots draws ≡ record { answer = RefusedDraw; done = replicate (length slots) false; slots = slots }
+  unfolding benchOf
+  bench-refuses e = simp (bench-ok, e)
 
-    bench-ok : benchOk n slots ≡ true
-    unfolding benchOk
-    bench-ok =
-        simp (
-          le-leb 1 n low,
-          le-leb n mostStations high,
-          ok-all (take n slots) (λ i h. let k : i < n = omega (arith, count) in rw (getD-take n slots i emptyStation k) (ok i k)),
-        )
+  module _ (enough : n ≤ length draws) (fine : drawsOk (take n draws) ≡ true) where
+    drawn : length (take n draws) ≡ n
+    drawn = length-take-le n draws enough
 
-    pub bench-refuses : drawsOk (take n draws) ≡ false → benchOf n slots draws ≡ record { answer = RefusedDraw; done = replicate (length slots) false; slots = slots }
+    line : ℕ
+    line = lineOf (take n slots)
+
+    some-sends : (line ≡ 0) ⊎ ((i : ℕ) × (i < length (take n slots)) × (sendsOf (getD (take n slots) i emptyStation) ≡ line))
+        → (line ≡ 0) ⊎ ((i : ℕ) × (i < n) × (sendsOf (getD slots i emptyStation) ≡ line))
+    some-sends (inl e) = inl e
+    some-sends (inr (i, h, e)) =
+        let k : i < n = omega (arith, count) in
+        inr (i, k, rw (getD-take n slots i emptyStation k) at e)
+
+    taken-turn : (i : ℕ) → i < n → turnAt line (take n slots) (take n draws) i ≡ turnAt line slots draws i
+    taken-turn i h = rw (getD-take n slots i emptyStation h, getD-take n draws i 0 h)
+
+    all-turn : Turns n slots draws line (turnAll n slots draws)
+    unfolding turnAll line
+    all-turn =
+        let moves : List Station = moveAll line (take n slots) (take n draws) in
+        let marks : List Bool = doneAll line (take n slots) (take n draws) in
+        let many : length moves ≡ length (take n slots) = length-moved line (take n slots) (take n draws) in
+        let each : length marks ≡ length (take n slots) = length-marked line (take n slots) (take n draws) in
+        record {
+          answers = refl;
+          same = length-front slots moves n many;
+          beyond = drop-at moves (drop n slots) n (many ∙ count);
+          next = λ i h.
+            List·getD-append moves (drop n slots) emptyStation i (omega (arith, many, count))
+            ∙ moved line (take n slots) (take n draws) i (omega (arith, count)) (omega (arith, drawn))
+            ∙ ap (λ (t : Turn). t .next) (taken-turn i h);
+          says = λ i h.
+            List·getD-append marks (replicate (length slots - n) false) false i (omega (arith, each, count))
+            ∙ marked line (take n slots) (take n draws) i (omega (arith, count)) (omega (arith, drawn))
+            ∙ ap (λ (t : Turn). isDone (t .answer)) (taken-turn i h);
+          draw = λ i h. rw (getD-take n draws i 0 h) at (ok-each (take n draws) fine i (omega (arith, drawn)));
+          above = λ i h. rw (getD-take n slots i emptyStation h) at (line-above (take n slots) i (omega (arith, count)));
+          some = some-sends (line-some (take n slots));
+        }
+
+    pub bench-turns : (h : ℕ) × Turns n slots draws h (benchOf n slots draws)
     unfolding benchOf
-    bench-refuses e = simp (bench-ok, e)
-
-    module _ (enough : n ≤ length draws) (fine : drawsOk (take n draws) ≡ true) where
-      drawn : length (take n draws) ≡ n
-      drawn = length-take-le n draws enough
-
-      taken-turn : (i : ℕ) → i < n → turnOf (getD (take n slots) i emptyStation) lineNow (getD (take n draws) i 0) ≡ turnNow i
-      taken-turn i h = rw (getD-take n slots i emptyStation h, getD-take n draws i 0 h)
-
-      some-sends : (lineNow ≡ 0) ⊎ ((i : ℕ) × (i < length (take n slots)) × (sendsOf (getD (take n slots) i emptyStation) ≡ lineNow))
-          → (lineNow ≡ 0) ⊎ ((i : ℕ) × (i < n) × (sendsOf (getD slots i emptyStation) ≡ lineNow))
-      some-sends (inl e) = inl e
-      some-sends (inr (i, h, e)) =
-          let k : i < n = omega (arith, count) in
-          inr (i, k, rw (getD-take n slots i emptyStation k) at e)
-
-      turn-right : Turns (turnAll n slots draws)
-      unfolding turnAll
-      turn-right =
-          let moves = length-moved lineNow (take n slots) (take n draws) in
-          let marks = length-marked lineNow (take n slots) (take n draws) in
-          record {
-            answers = refl;
-            same = length-front slots (moveAll lineNow (take n slots) (take n draws)) n moves;
-            past = drop-at (moveAll lineNow (take n slots) (take n draws)) (drop n slots) n (moves ∙ count);
-            next = λ i h.
-              List·getD-append (moveAll lineNow (take n slots) (take n draws)) (drop n slots) emptyStation i (omega (arith, moves, count))
-              ∙ moved lineNow (take n slots) (take n draws) i (omega (arith, count)) (omega (arith, drawn))
-              ∙ ap (λ (t : Turn). t .next) (taken-turn i h);
-            mark = λ i h.
-              List·getD-append (doneAll lineNow (take n slots) (take n draws)) _ false i (omega (arith, marks, count))
-              ∙ marked lineNow (take n slots) (take n draws) i (omega (arith, count)) (omega (arith, drawn))
-              ∙ ap (λ (t : Turn). isDone (t .answer)) (taken-turn i h);
-            draw = λ i h. rw (getD-take n draws i 0 h) at (ok-each (take n draws) fine i (omega (arith, drawn)));
-            above = λ i h. rw (getD-take n slots i emptyStation h) at (line-above (take n slots) i (omega (arith, count)));
-            some = some-sends (line-some (take n slots));
-          }
-
-      pub bench-turns : Turns (benchOf n slots draws)
-      unfolding benchOf
-      bench-turns = simp (bench-ok, fine) turn-right
+    bench-turns = (line, simp (bench-ok, fine) all-turn)

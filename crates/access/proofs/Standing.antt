@@ -2,8 +2,10 @@
 -- all that send have sent the same.
 --
 --     Front, Follows          a message's burst begins with what was sent; and is not over
---     Stands, stands-ok       the three ways in which a station stands: gone, waiting, sending
+--     Sending, Stands, stands-ok     the three ways in which a station stands: gone, waiting, sending
+--     sending-half, sends-half, who-sends     what such a station sends
 --     vacant                  1 for an empty station
+--     ends-here, sends-here   a station that sends what is heard
 --     Outcome, outcome        what a half-cycle makes of a station, by the line's half-cycle
 --     keeps-sending, is-over  a burst that goes on, and one that ends, leave the stations standing so
 --     counts-on               a clear half-cycle while none sends
@@ -27,7 +29,7 @@ use Rattle.station.specs.declared.Station.{Station}
 use Rattle.station.specs.declared.Turn.{Turn}
 use Rattle.station.specs.declared.TurnAnswer.the-variants.{Going, Done}
 use Rattle.station.specs.Stations.{emptyStation, drawOk, stationOk, isEmpty, sendsOf, sending, turnOf, isDone}
-use Rattle.access.proofs.BurstLaws.{burst-long, burst-some, burst-first, counted}
+use Rattle.access.proofs.BurstLaws.{burst-long, burst-some, burst-half, burst-first, counted}
 use Rattle.access.proofs.Turns.{holding, goes, drawn, empty-turn, waiting-ok, sending-ok, waiting-sends, sending-sends, waiting-turn, sending-turn}
 
 -- the burst of m begins with what was sent
@@ -54,11 +56,19 @@ whole m sent f e = sym (take-all (length sent) (burstOf m) (omega (arith, burst-
 
 -- ---- the three ways
 
--- the half-cycles of a burst so far are sent, and z clear ones were heard last; a station that has yet to begin has counted its wait
+-- a station that has sent what is on the line, and sends on; one that has yet to begin has counted its wait
+pub record Sending (m : Message) (sent : List ℕ) (z : ℕ) (s : Station) : Type 0 where
+  pub wait : ℕ
+  pub drawn-wait : drawOk wait ≡ true
+  pub begun : length sent ≡ 0 → wait ≡ z
+  pub follows : Follows m sent
+  pub is : s ≡ holding m wait wait (length sent)
+
+-- the half-cycles of a burst so far are sent, and z clear ones were heard last
 pub data Stands (m : Message) (sent : List ℕ) (z : ℕ) (s : Station) : Type 0 where
   gone : s ≡ emptyStation → Stands m sent z s
   waiting : (w : ℕ) → drawOk w ≡ true → z < w → s ≡ holding m w z 0 → Stands m sent z s
-  sends : (w : ℕ) → drawOk w ≡ true → (length sent ≡ 0 → w ≡ z) → Follows m sent → s ≡ holding m w w (length sent) → Stands m sent z s
+  sends : Sending m sent z s → Stands m sent z s
 
 abbrev pub mark : Bool → ℕ
 mark b = pick b 1 0
@@ -71,7 +81,23 @@ module _ (m : Message) (valid : messageOk m ≡ true) (sent : List ℕ) (z : ℕ
   unfolding stationOk
   stands-ok s (gone e) = ap stationOk e
   stands-ok s (waiting w d l e) = ap stationOk e ∙ waiting-ok m w valid d z (omega arith)
-  stands-ok s (sends w d b f e) = ap stationOk e ∙ sending-ok m w valid d (length sent) (f .more)
+  stands-ok s (sends x) = ap stationOk (x .is) ∙ sending-ok m (x .wait) valid (x .drawn-wait) (length sent) (x .follows .more)
+
+  -- what a station sends is the next half-cycle of its burst, or nothing
+  pub sending-half : (s : Station) → Sending m sent z s → sendsOf s ≡ getD (burstOf m) (length sent) 0
+  sending-half s x = ap sendsOf (x .is) ∙ sending-sends m (x .wait) valid (x .drawn-wait) (length sent)
+
+  pub sends-half : (s : Station) → Stands m sent z s → sendsOf s ≤ 1
+  unfolding sendsOf
+  sends-half s (gone e) = omega (arith, ap sendsOf e)
+  sends-half s (waiting w d l e) = omega (arith, ap sendsOf e ∙ waiting-sends m w valid d z l)
+  sends-half s (sends x) = omega (arith, sending-half s x, burst-half m (length sent))
+
+  pub who-sends : (s : Station) → Stands m sent z s → 1 ≤ sendsOf s → Sending m sent z s
+  unfolding sendsOf
+  who-sends s (gone e) l = absurd (omega (arith, ap sendsOf e))
+  who-sends s (waiting w d u e) l = absurd (omega (arith, ap sendsOf e ∙ waiting-sends m w valid d z u))
+  who-sends s (sends x) l = x
 
 -- ---- one half-cycle
 
@@ -98,36 +124,49 @@ module _ (m : Message) (valid : messageOk m ≡ true) (sent : List ℕ) (z : ℕ
   waits-one d w hd hw l e =
       waits-on d hd (omega (arith, drawn d hd)) (holds e) (ap (λ (s : Station). turnOf s 1 d) e ∙ waiting-turn m w valid hw 1 d (omega arith) hd z l)
 
-  module _ (h d w : ℕ) (low : h ≤ 1) (hd : drawOk d ≡ true) (hw : drawOk w ≡ true) (f : Follows m sent) (e : s ≡ holding m w w (length sent)) where
-    turned : getD (burstOf m) (length sent) 0 ≤ h → turnOf s h d ≡ sending m w w (length sent) h d
-    turned u = ap (λ (s : Station). turnOf s h d) e ∙ sending-turn m w valid hw h d low hd (length sent) (f .more) u
+  module _ (h d : ℕ) (low : h ≤ 1) (hd : drawOk d ≡ true) (x : Sending m sent z s) where
+    abbrev half : ℕ
+    half = getD (burstOf m) (length sent) 0
 
-    pub ends-here : getD (burstOf m) (length sent) 0 ≡ h → length sent + 1 ≡ burstLength m → turnOf s h d ≡ record { answer = Done; next = emptyStation }
-    ends-here same p =
-        turned (le-of-eq same) ∙ simp (eq-eqb (getD (burstOf m) (length sent) 0) h same, eq-eqb (length sent + 1) (burstLength m) p)
+    turned : half ≤ h → turnOf s h d ≡ sending m (x .wait) (x .wait) (length sent) h d
+    turned u =
+        ap (λ (s : Station). turnOf s h d) (x .is)
+        ∙ sending-turn m (x .wait) valid (x .drawn-wait) h d low hd (length sent) (x .follows .more) u
 
-    -- a station that sends what is heard
-    carries-on : getD (burstOf m) (length sent) 0 ≡ h → After h d
-    carries-on same = go (ℕ-discrete (length sent + 1) (burstLength m))
-      where
-        go : Dec (length sent + 1 ≡ burstLength m) → After h d
-        go (yes p) =
-            ends (whole m (sent ++ h ∷ []) (front-more m sent h f same) (length-more sent h ∙ p)) (holds e)
-            (ends-here same p)
-        go (no p) =
-            sends-on w hw (record { front = front-more m sent h f same; more = omega (arith, length-more sent h, f .more) }) (holds e)
-            (turned (le-of-eq same)
-            ∙ simp (eq-eqb (getD (burstOf m) (length sent) 0) h same, ne-eqb (length sent + 1) (burstLength m) p)
-            (ap (λ (k : ℕ). goes (holding m w w k)) (sym (length-more sent h))))
+    -- a station that sends what is heard: at the burst's end, and before
+    pub ends-here : half ≡ h → length sent + 1 ≡ burstLength m → turnOf s h d ≡ record { answer = Done; next = emptyStation }
+    ends-here same p = turned (le-of-eq same) ∙ simp (eq-eqb half h same, eq-eqb (length sent + 1) (burstLength m) p)
+
+    pub sends-here : half ≡ h → (length sent + 1 ≡ burstLength m → ⊥)
+        → turnOf s h d ≡ goes (holding m (x .wait) (x .wait) (length (sent ++ h ∷ [])))
+    sends-here same p =
+        turned (le-of-eq same)
+        ∙ simp (eq-eqb half h same, ne-eqb (length sent + 1) (burstLength m) p)
+        (ap (λ (k : ℕ). goes (holding m (x .wait) (x .wait) k)) (sym (length-more sent h)))
+
+    pub goes-further : half ≡ h → (length sent + 1 ≡ burstLength m → ⊥) → Follows m (sent ++ h ∷ [])
+    goes-further same p = record {
+      front = front-more m sent h (x .follows) same;
+      more = omega (arith, length-more sent h, x .follows .more);
+    }
+
+    carries-on : half ≡ h → Dec (length sent + 1 ≡ burstLength m) → After h d
+    carries-on same (yes p) =
+        ends (whole m (sent ++ h ∷ []) (front-more m sent h (x .follows) same) (length-more sent h ∙ p)) (holds (x .is)) (ends-here same p)
+    carries-on same (no p) =
+        sends-on (x .wait) (x .drawn-wait) (goes-further same p) (holds (x .is)) (sends-here same p)
 
     -- a station that sends 0 and hears 1
-    gives-way : getD (burstOf m) (length sent) 0 < h → After h d
+    gives-way : half < h → After h d
     gives-way less =
         let one : h ≡ 1 = omega arith in
         let none : counted z h ≡ 0 = ap (counted z) one in
-        waits-on d hd (omega (arith, none, drawn d hd)) (holds e)
-        (turned (omega arith)
-        ∙ simp (ne-eqb (getD (burstOf m) (length sent) 0) h (λ x. omega arith)) (ap (λ (c : ℕ). goes (holding m d c 0)) (sym none)))
+        waits-on d hd (omega (arith, none, drawn d hd)) (holds (x .is))
+        (turned (omega arith) ∙ simp (ne-eqb half h (λ q. omega arith)) (ap (λ (c : ℕ). goes (holding m d c 0)) (sym none)))
+
+    sent-or-not : Dec (half ≡ h) → half ≤ h → After h d
+    sent-or-not (yes p) l = carries-on p (ℕ-discrete (length sent + 1) (burstLength m))
+    sent-or-not (no p) l = gives-way (omega arith)
 
   module _ (d : ℕ) (hd : drawOk d ≡ true) where
     pub outcome : (h : ℕ) → h ≤ 1 → sendsOf s ≤ h → (h ≡ 0 → z + 1 < 8) → Stands m sent z s → After h d
@@ -135,13 +174,8 @@ module _ (m : Message) (valid : messageOk m ≡ true) (sent : List ℕ) (z : ℕ
     outcome zero low u b (waiting w hw l e) = waits-clear d w hd hw l (b refl) e
     outcome (suc zero) low u b (waiting w hw l e) = waits-one d w hd hw l e
     outcome (suc (suc h)) low u b (waiting w hw l e) = absurd (omega arith)
-    outcome h low u b (sends w hw c f e) =
-        let sent-now : sendsOf s ≡ getD (burstOf m) (length sent) 0 = ap sendsOf e ∙ sending-sends m w valid hw (length sent) in
-        go (ℕ-discrete (getD (burstOf m) (length sent) 0) h) (omega (arith, sent-now))
-      where
-        go : Dec (getD (burstOf m) (length sent) 0 ≡ h) → getD (burstOf m) (length sent) 0 ≤ h → After h d
-        go (yes p) l = carries-on h d w low hd hw f e p
-        go (no p) l = gives-way h d w low hd hw f e (omega arith)
+    outcome h low u b (sends x) =
+        sent-or-not h d low hd x (ℕ-discrete (getD (burstOf m) (length sent) 0) h) (omega (arith, sending-half m valid sent z s x))
 
 -- ---- what the half-cycle leaves
 
@@ -170,7 +204,10 @@ pub keeps-sending : {m : Message} {sent : List ℕ} {z : ℕ} {s : Station} {t :
 keeps-sending l n (still-gone e p) = (settles-gone e p, ap (λ (t : Turn). isDone (t .answer)) p)
 keeps-sending l n (waits-on w d b v p) = (settles-waiting w d b v p, ap (λ (t : Turn). isDone (t .answer)) p)
 keeps-sending {s = s} l n (sends-on w d f v p) =
-    (record { stands = sends w d (λ e. absurd (omega arith)) f (ap (λ (t : Turn). t .next) p); fills = quietly s p v }, ap (λ (t : Turn). isDone (t .answer)) p)
+    (record {
+      stands = sends (record { wait = w; drawn-wait = d; begun = λ e. absurd (omega arith); follows = f; is = ap (λ (t : Turn). t .next) p });
+      fills = quietly s p v;
+    }, ap (λ (t : Turn). isDone (t .answer)) p)
 keeps-sending l n (ends e v p) = absurd (n e)
 
 -- the burst is over: none sends on
@@ -206,7 +243,13 @@ module _ (m : Message) (valid : messageOk m ≡ true) (c d : ℕ) (hd : drawOk d
       counted-on : Dec (c + 1 ≡ w) → Settles m [] (c + 1) s (turnOf s 0 d)
       counted-on (no n) = settles-waiting w hw (omega arith) (ap vacant e) p
       counted-on (yes q) = record {
-        stands = sends w hw (λ x. sym q) begins (ap (λ (t : Turn). t .next) p ∙ ap (λ (c : ℕ). holding m w c 0) q);
+        stands = sends (record {
+          wait = w;
+          drawn-wait = hw;
+          begun = λ x. sym q;
+          follows = begins;
+          is = ap (λ (t : Turn). t .next) p ∙ ap (λ (c : ℕ). holding m w c 0) q;
+        });
         fills = quietly s p (ap vacant e);
       }
-  counts-on s u (sends w hw b f e) = absurd (omega (arith, ap sendsOf e ∙ sending-sends m w valid hw 0 ∙ burst-first m))
+  counts-on s u (sends x) = absurd (omega (arith, sending-half m valid [] c s x ∙ burst-first m))
