@@ -2,6 +2,7 @@
 --
 --     Cleared, cleared-by, cleared-three     the receiver's last half-cycles are clear as far as those that wait have counted
 --     SaysAt, says-at              the event of each half-cycle of a burst
+--     repeat-ends, end-repeats, gives-this, says-cleanly     what such an event says
 --     part-next, part-event        one half-cycle more
 --     whole-idle, whole-events     the burst's end
 --     heard-back, lines-back       the events and the half-cycles of a whole burst, newest first
@@ -14,11 +15,12 @@ use native.Mathlib.Decide.{decLt, ℕ-discrete}
 use native.Mathlib.Omega.{arith}
 use lib.ListN.{length, getD, take, drop, replicate, length-append, length-reverse, length-replicate, getD-replicate, take-append-drop, List·getD-append}
 use lib.Seq.{take-at, getD-at, getD-append-add}
+use Rattle.message.specs.Numbers.{NONE}
 use Rattle.message.specs.Messages.{messageOk, BytesOk}
 use Rattle.message.specs.declared.Message.{Message}
 use Rattle.message.specs.declared.Message.the-variants.{Address, Function as Command, Extended}
 use Rattle.burst.specs.Frames.{frameOf, frameLength, burstOf, burstLength}
-use Rattle.receiver.specs.Receivers.{shifted, hunting, stepOf}
+use Rattle.receiver.specs.Receivers.{eventNumber, shifted, hunting, stepOf}
 use Rattle.receiver.specs.Hearing.{eventsOf, receiverAfter}
 use Rattle.receiver.specs.declared.Receiver.{Receiver}
 use Rattle.receiver.specs.declared.Event.{Event}
@@ -70,6 +72,27 @@ pub data SaysAt (m : Message) (k : ℕ) (e : Event) : Type 0 where
   silent : (k + 1 ≡ burstLength m → ⊥) → e ≡ Nothing → SaysAt m k e
   gives : (k + 1 ≡ burstLength m → ⊥) → e ≡ Gives m → SaysAt m k e
   repeats : k + 1 ≡ burstLength m → e ≡ Repeat → SaysAt m k e
+
+module _ {m : Message} {k : ℕ} {e : Event} where
+  pub repeat-ends : SaysAt m k e → e ≡ Repeat → k + 1 ≡ burstLength m
+  repeat-ends (silent n p) q = let z : _≡_ {A = ℕ} 0 1 = cc in absurd (omega arith)
+  repeat-ends (gives n p) q = let z : _≡_ {A = ℕ} 0 1 = cc in absurd (omega arith)
+  repeat-ends (repeats l p) q = l
+
+  pub end-repeats : SaysAt m k e → k + 1 ≡ burstLength m → e ≡ Repeat
+  end-repeats (silent n p) l = absurd (n l)
+  end-repeats (gives n p) l = absurd (n l)
+  end-repeats (repeats _ p) l = p
+
+  pub gives-this : SaysAt m k e → {g : Message} → e ≡ Gives g → m ≡ g
+  gives-this (silent n p) q = let z : _≡_ {A = ℕ} 0 1 = cc in absurd (omega arith)
+  gives-this (gives n p) q = cc
+  gives-this (repeats l p) q = let z : _≡_ {A = ℕ} 0 1 = cc in absurd (omega arith)
+
+  pub says-cleanly : SaysAt m k e → eventNumber e ≡ NONE
+  says-cleanly (silent n p) = ap eventNumber p
+  says-cleanly (gives n p) = ap eventNumber p
+  says-cleanly (repeats l p) = ap eventNumber p
 
 module _ (f : ℕ) (e : Event) (rest : List Event) where
   abbrev framed : List Event

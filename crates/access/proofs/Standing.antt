@@ -5,7 +5,7 @@
 --     Sending, Stands, stands-ok     the three ways in which a station stands: gone, waiting, sending
 --     sending-half, sends-half, who-sends     what such a station sends
 --     vacant                  1 for an empty station
---     ends-here, sends-here   a station that sends what is heard
+--     ends-here, sends-still  a station that sends what is heard, at its burst's end and before
 --     Outcome, outcome        what a half-cycle makes of a station, by the line's half-cycle
 --     keeps-sending, is-over  a burst that goes on, and one that ends, leave the stations standing so
 --     counts-on               a clear half-cycle while none sends
@@ -137,17 +137,26 @@ module _ (m : Message) (valid : messageOk m ≡ true) (sent : List ℕ) (z : ℕ
     pub ends-here : half ≡ h → length sent + 1 ≡ burstLength m → turnOf s h d ≡ record { answer = Done; next = emptyStation }
     ends-here same p = turned (le-of-eq same) ∙ simp (eq-eqb half h same, eq-eqb (length sent + 1) (burstLength m) p)
 
-    pub sends-here : half ≡ h → (length sent + 1 ≡ burstLength m → ⊥)
+    sends-here : half ≡ h → (length sent + 1 ≡ burstLength m → ⊥)
         → turnOf s h d ≡ goes (holding m (x .wait) (x .wait) (length (sent ++ h ∷ [])))
     sends-here same p =
         turned (le-of-eq same)
         ∙ simp (eq-eqb half h same, ne-eqb (length sent + 1) (burstLength m) p)
         (ap (λ (k : ℕ). goes (holding m (x .wait) (x .wait) k)) (sym (length-more sent h)))
 
-    pub goes-further : half ≡ h → (length sent + 1 ≡ burstLength m → ⊥) → Follows m (sent ++ h ∷ [])
+    goes-further : half ≡ h → (length sent + 1 ≡ burstLength m → ⊥) → Follows m (sent ++ h ∷ [])
     goes-further same p = record {
       front = front-more m sent h (x .follows) same;
       more = omega (arith, length-more sent h, x .follows .more);
+    }
+
+    pub sends-still : half ≡ h → (length sent + 1 ≡ burstLength m → ⊥) → (z′ : ℕ) → Sending m (sent ++ h ∷ []) z′ (turnOf s h d .next)
+    sends-still same p z′ = record {
+      wait = x .wait;
+      drawn-wait = x .drawn-wait;
+      begun = λ e. absurd (omega (arith, length-more sent h));
+      follows = goes-further same p;
+      is = ap (λ (t : Turn). t .next) (sends-here same p);
     }
 
     carries-on : half ≡ h → Dec (length sent + 1 ≡ burstLength m) → After h d
