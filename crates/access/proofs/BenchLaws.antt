@@ -4,7 +4,7 @@
 --     length-moved, moved, marked  each station after the line's half-cycle, and its mark
 --     line-above, line-some        the line is no less than what a station sends; it is 0, or what some station sends
 --     Turns, bench-turns           a call that is not refused, as these say
---     bench-refuses                a call that its draws refuse
+--     bench-number, bench-refuses  a call that its draws refuse
 use mathlib.Core.Path.{_≡_, refl, sym, ap, ap₂, _∙_}
 use mathlib.Core.Logic.{_⊎_, inl, inr}
 use mathlib.Core.Bool.{Bool, true, false, _&&_, and-eq-true-iff}
@@ -18,10 +18,11 @@ use lib.Dec.{leb}
 use lib.ListN.{length, getD, take, drop, replicate, length-append, List·getD-append}
 use lib.Seq.{length-take-le, length-front, drop-at, getD-take}
 use Rattle.message.specs.Choice.{pick}
+use Rattle.message.specs.Numbers.{NONE, DRAW}
 use Rattle.station.specs.declared.Station.{Station}
 use Rattle.station.specs.declared.Turn.{Turn}
 use Rattle.station.specs.Stations.{emptyStation, stationOk, drawOk, sendsOf, turnOf, isDone}
-use Rattle.bench.specs.Benches.{mostStations, lineOf, moveAll, doneAll, stationsOk, drawsOk, benchOk, turnAll, benchOf}
+use Rattle.bench.specs.Benches.{benchNumber, mostStations, lineOf, moveAll, doneAll, stationsOk, drawsOk, benchOk, turnAll, benchOf}
 use Rattle.bench.specs.declared.BenchAnswer.the-variants.{Line, RefusedDraw}
 use Rattle.bench.specs.declared.BenchTurn.{BenchTurn}
 
@@ -122,6 +123,14 @@ module _ (n : ℕ) (slots : List Station) (draws : List ℕ) (low : 1 ≤ n) (hi
   pub bench-refuses : drawsOk (take n draws) ≡ false → benchOf n slots draws ≡ record { answer = RefusedDraw; done = replicate (length slots) false; slots = slots }
   unfolding benchOf
   bench-refuses e = simp (bench-ok, e)
+
+  pub bench-number : benchNumber (benchOf n slots draws .answer) ≡ pick (drawsOk (take n draws)) NONE DRAW
+  unfolding benchOf turnAll
+  bench-number = go (drawsOk (take n draws)) refl
+    where
+      go : (b : Bool) → drawsOk (take n draws) ≡ b → benchNumber (benchOf n slots draws .answer) ≡ pick (drawsOk (take n draws)) NONE DRAW
+      go true e = simp (bench-ok, e)
+      go false e = simp (bench-ok, e)
 
   module _ (enough : n ≤ length draws) (fine : drawsOk (take n draws) ≡ true) where
     drawn : length (take n draws) ≡ n

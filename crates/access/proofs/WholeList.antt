@@ -1,0 +1,127 @@
+-- Demand 3 for every list of calls: what holds at the start is kept by each call, and says what is claimed.
+use mathlib.Core.Path.{_≡_, refl, sym, ap, subst, _∙_}
+use mathlib.Core.Bool.{Bool, true, false}
+use mathlib.Core.List.{List, [], _∷_}
+use Prim.Native.Nat.{ℕ, zero, suc, _+_, _*_, _≤_, _<_}
+use native.Mathlib.Decide.{ℕ-discrete}
+use native.Mathlib.Omega.{arith}
+use lib.ListN.{length, getD, take, drop}
+use Rattle.message.specs.Messages.{messageOk}
+use Rattle.message.specs.declared.Message.{Message}
+use Rattle.burst.specs.Frames.{burstLength}
+use Rattle.station.specs.Stations.{emptyStation, isEmpty, stationOk}
+use Rattle.station.specs.declared.Station.{Station}
+use Rattle.bench.specs.Benches.{drawsOk, benchOf}
+use Rattle.bench.specs.declared.BenchAnswer.{BenchAnswer}
+use Rattle.bench.specs.declared.BenchAnswer.the-variants.{Line}
+use Rattle.bench.specs.declared.BenchTurn.{BenchTurn}
+use Rattle.hearing.proofs.WholeHeard.{idle-fresh}
+use Rattle.access.specs.Calls.{Moment, atStart, hears, call, run, Drawn}
+use Rattle.access.specs.Demand3.{Start, timesDone, Claim, Demand3}
+use Rattle.access.proofs.BurstLaws.{burst-most, countedBy}
+use Rattle.access.proofs.Turns.{drawn, Accepted, accepted}
+use Rattle.access.proofs.Standing.{Stands, gone, waiting, sends, stands-ok, mark, vacant}
+use Rattle.access.proofs.BenchLaws.{bench-number, bench-refuses, bench-turns}
+use Rattle.access.proofs.Tally.{total, total-short}
+use Rattle.access.proofs.Moments.{slot, Bench, Kept, Quiet, Race, Sender, State, quiet, busy, next-state}
+
+module _ (n : ℕ) (message : ℕ → Message) (draw : ℕ → ℕ) (slots : List Station) (S : Start n message draw slots) where
+  loading : (i : ℕ) → i < n → Accepted (message i) (draw i)
+  loading i l = accepted (message i) (draw i) (S .accepted i l)
+
+  pub bench : Bench n message
+  bench = record { valid = λ i l. loading i l .valid; bytes = S .bytes }
+
+  at-first : (i : ℕ) → i < n → Stands (message i) [] 0 (getD slots i emptyStation)
+  at-first i l =
+      let a = loading i l in
+      waiting (draw i) (a .wait) (omega (arith, drawn (draw i) (a .wait))) (S .loaded i l ∙ a .fresh)
+
+  pub record Reached (now : Moment) : Type 0 where
+    pub kept : Kept n message slots now
+    pub state : State n message slots now
+
+  at-start : Reached (atStart slots)
+  at-start = record {
+    kept = record {
+      room = S .room;
+      beyond = refl;
+      tally = λ i l. sym (ap vacant (S .loaded i l ∙ loading i l .fresh));
+      right = tt;
+    };
+    state = quiet 0 (record { idle = idle-fresh; cleared = tt; stations = at-first; bound = λ i l v. omega arith });
+  }
+
+  -- each station is in a state of 01
+  all-ok : (now : Moment) → State n message slots now → (i : ℕ) → i < n → stationOk (slot now i) ≡ true
+  all-ok now (quiet c Q) i l = stands-ok (message i) (bench .valid i l) [] c (slot now i) (Q .stations i l)
+  all-ok now (busy z r sent R k F) i l = stands-ok (message i) (bench .valid i l) sent (countedBy z sent) (slot now i) (R .stations i l)
+
+  module _ (now : Moment) (H : Reached now) where
+    -- a refused call changes nothing
+    stays : (draws : List ℕ) → drawsOk (take n draws) ≡ false → call n now draws ≡ now
+    unfolding call
+    stays draws e =
+        ap (λ (t : BenchTurn). hears now t (t .answer))
+        (bench-refuses n (now .slots) draws (S .some) (S .most) (H .kept .room) (all-ok now (H .state)) e)
+
+    one-call : (draws : List ℕ) → n ≤ length draws → Reached (call n now draws)
+    unfolding call
+    one-call draws enough = go (drawsOk (take n draws)) refl
+      where
+        go : (b : Bool) → drawsOk (take n draws) ≡ b → Reached (call n now draws)
+        go false e = subst Reached (sym (stays draws e)) H
+        go true e =
+            let t = bench-turns n (now .slots) draws (S .some) (S .most) (H .kept .room) (all-ok now (H .state)) enough e in
+            let x = next-state n message slots bench now draws (benchOf n (now .slots) draws) (H .kept) (H .state) (t .0) (t .1) in
+            subst Reached (sym (ap (hears now (benchOf n (now .slots) draws)) (t .1 .answers))) (record { kept = x .0; state = x .1 })
+
+  pub reached : (calls : List (List ℕ)) → Drawn n calls → Reached (run n (atStart slots) calls)
+  unfolding run
+  reached [] d = at-start
+  reached (draws ∷ calls) d = one-call (run n (atStart slots) calls) (reached calls (d .1)) draws (d .0)
+
+  -- ---- what is claimed
+
+  -- an empty station, or one that is not
+  marked-once : (b : Bool) → mark b ≤ 1
+  marked-once true = omega arith
+  marked-once false = omega arith
+
+  module _ (now : Moment) (H : Reached now) where
+    once : (i : ℕ) → i < n → timesDone i (now .past) ≤ 1
+    once i l = omega (arith, H .kept .tally i l, marked-once (isEmpty (slot now i .held)))
+
+    -- a count that a station waits or begins at is at most its wait
+    count-low : (c i : ℕ) → vacant (slot now i) ≡ 0 → Stands (message i) [] c (slot now i) → c ≤ 10
+    count-low c i v (gone e) = absurd (omega (arith, ap vacant e))
+    count-low c i v (waiting w d l e) = omega (arith, drawn w d)
+    count-low c i v (sends x) = omega (arith, x .begun refl, drawn (x .wait) (x .drawn-wait))
+
+    -- while one station is not done, the calls are fewer
+    not-yet : (i : ℕ) → i < n → vacant (slot now i) ≡ 0 → State n message slots now → length (now .past) < 134 * n
+    not-yet i l v s = go s (total-short n (now .past) once i l (H .kept .tally i l ∙ v))
+      where
+        go : State n message slots now → total n (now .past) < n → length (now .past) < 134 * n
+        go (quiet c Q) k = omega (arith, Q .bound i l v, count-low c i v (Q .stations i l))
+        go (busy z r sent R j F) k = omega (arith, R .bound, F .sends .follows .more, burst-most (message (F .who)))
+
+    all-done : 134 * n ≤ length (now .past) → (i : ℕ) → i < n → timesDone i (now .past) ≡ 1
+    all-done many i l = go (ℕ-discrete (vacant (slot now i)) 0)
+      where
+        go : Dec (vacant (slot now i) ≡ 0) → timesDone i (now .past) ≡ 1
+        go (yes v) = absurd (omega (arith, not-yet i l v (H .state)))
+        go (no v) = omega (arith, H .kept .tally i l, once i l)
+
+    claim : Claim n message slots now
+    claim = record {
+      refused = λ draws. bench-number n (now .slots) draws (S .some) (S .most) (H .kept .room) (all-ok now (H .state));
+      unchanged = stays now H;
+      within = all-done;
+      once = once;
+      answers = H .kept .right;
+      beyond = H .kept .beyond;
+    }
+
+pub demand-3 : Demand3
+demand-3 n message draw slots S calls d = claim n message draw slots S (run n (atStart slots) calls) (reached n message draw slots S calls d)
