@@ -1,8 +1,9 @@
 -- Laws of the word of a message: its bits fit the count, and it is read back as the message it came from.
 --
 --     word-below                          a word has no more bits than the count
---     standard-of-word, extended-of-word  the word of a valid message read back
---     head-of-extended                    the first nine bits of an extended message's word
+--     head-of-extended, standard-of-head  the first nine bits of an extended message, and what they say
+--     standard-of-address, standard-of-function, extended-of-word     the word of a valid message read back, kind by kind
+--     word-read-back, words-one-to-one    the same for every message; valid messages with the same bits are equal
 use mathlib.Core.Path.{_≡_, refl, sym, ap, ap₂, subst, _∙_}
 use mathlib.Core.Bool.{Bool, true, false, _&&_, and-eq-true-iff}
 use Prim.Native.Nat.{ℕ, _+_, _*_, _/_, _%_, _^_, _≤_, _<_}
@@ -10,7 +11,7 @@ use native.Mathlib.Omega.{arith}
 use borrow.Author.Tests.{leb-true}
 use lib.Dec.{eqb, leb}
 use Rattle.message.specs.Choice.{pick}
-use Rattle.message.specs.Codes.{codeOf, numberOf, functionCode, meaningOf}
+use Rattle.message.specs.Codes.{codeOf, numberOf, functionCode, meanings, meaningOf}
 use Rattle.message.specs.Messages.{messageOk, BytesOk}
 use Rattle.message.specs.Words.{nine, wordOf, bitCount, functionReading, standardOf, extendedOf}
 use Rattle.message.specs.declared.Function.{Function}
@@ -84,3 +85,30 @@ extended-of-word h u d c t b =
     let ed : w / 256 % 256 ≡ d = omega arith in
     let ec : w % 256 ≡ c = omega arith in
     simp (eh, eu, ed, ec, number-of-code h (p .0), number-of-code u (p .1))
+
+-- ---- every message
+
+-- what a word of so many bits says
+abbrev pub readWord : ℕ → ℕ → Reading
+readWord count w = pick (eqb count 9) (standardOf w) (Whole (extendedOf w))
+
+pub word-read-back : (m : Message) → messageOk m ≡ true → BytesOk m → readWord (bitCount m) (wordOf m) ≡ Whole m
+word-read-back (Address h u) t b = standard-of-address h u t
+word-read-back (Command h f) t b = standard-of-function h f t
+word-read-back (Extended h u d c) t b = ap Whole (extended-of-word h u d c t b)
+
+-- two valid messages with the same bits are one message
+pub words-one-to-one : (m n : Message) → messageOk m ≡ true → BytesOk m → messageOk n ≡ true → BytesOk n
+    → bitCount m ≡ bitCount n → wordOf m ≡ wordOf n → m ≡ n
+words-one-to-one m n tm bm tn bn ec ew =
+    let p : Whole m ≡ Whole n = sym (word-read-back m tm bm) ∙ ap₂ readWord ec ew ∙ word-read-back n tn bn in
+    cc
+
+-- nine bits of a house, code 7 and function bit 1 say that an extended message has begun
+pub standard-of-head : (h : ℕ) → standardOf (nine (codeOf h) 7 1) ≡ Begun
+unfolding standardOf meaningOf meanings
+standard-of-head h =
+    simp (
+      nine-code (codeOf h) 7 1 (code-below h) (omega arith) (omega arith),
+      nine-bit (codeOf h) 7 1 (code-below h) (omega arith) (omega arith),
+    )

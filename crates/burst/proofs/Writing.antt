@@ -1,0 +1,138 @@
+-- Laws of the burst's array: what a turn of each loop does, and what the array then holds.
+--
+--     pair-put, again-put, front-put     one turn of `put_pairs`, of `put_again`, of `copy_front`
+--     frame-placed, burst-placed         the first frame, and both, in the array
+--     burst-taken                        the burst taken from the array
+--     frame-at-most, count-at-most       the longest frame
+--     refused-message, refused-short, burst-written     what the writer owes at each return
+use mathlib.Core.Path.{_≡_, refl, sym, ap, ap₂, subst, _∙_}
+use mathlib.Core.Bool.{true, false}
+use mathlib.Core.List.{List, [], _∷_, _++_, append-assoc}
+use Prim.Native.Nat.{ℕ, zero, suc, _+_, _-_, _*_, _/_, _%_, _^_, _≤_, _<_}
+use native.Mathlib.Nat.{not-suc-le-zero, zero-add}
+use native.Mathlib.Numerals.{add-one, add-two, sub-one}
+use native.Mathlib.Omega.{arith}
+use borrow.Author.Tests.{le-leb, lt-leb}
+use lib.Dec.{lit≤}
+use lib.ListN.{length, getD, set, take, drop, replicate, List·getD-append}
+use lib.Seq.{sets, sets-eq, paste, paste-suc, take-at, drop-append-add, length-take-le, getD-take}
+use Rattle.message.specs.Messages.{messageOk}
+use Rattle.message.specs.Words.{wordOf, bitCount}
+use Rattle.message.specs.declared.Message.{Message}
+use Rattle.message.specs.declared.Message.the-variants.{Address, Function as Command, Extended}
+use Rattle.burst.specs.Frames.{bitsOf, pairsOf, frameOf, frameLength, burstOf, burstLength}
+use Rattle.burst.specs.Writer.{answerOf, burstAnswer, written, bufferAfter}
+use Rattle.burst.specs.declared.BurstAnswer.{BurstAnswer}
+use Rattle.burst.specs.declared.BurstAnswer.the-variants.{Written, RefusedMessage, RefusedShort}
+use Rattle.burst.proofs.FrameLaws.{bits-length, pairs-length, frame-length, burst-length}
+
+-- the next bit and its complement are put, and the rest is still to come
+pub pair-put : (out : List ℕ) (next left word : ℕ) → 0 < left
+    → sets (set (set out next (word / 2 ^ (left - 1) % 2)) (next + 1) (1 - word / 2 ^ (left - 1) % 2)) (next + 2) (pairsOf (bitsOf (left - 1) word))
+    ≡ sets out next (pairsOf (bitsOf left word))
+unfolding bitsOf pairsOf
+pair-put out next zero word h = absurd (not-suc-le-zero h)
+pair-put out next (suc l) word h = simp (sub-one, add-one, add-two)
+
+-- one more entry of the front is put behind it
+pub again-put : (a : List ℕ) (n i : ℕ) → n + i < length a → i < n
+    → set (paste a n a i) (n + i) (getD (paste a n a i) i 0) ≡ paste a n a (i + 1)
+again-put a n i h hi =
+    let front : getD (paste a n a i) i 0 ≡ getD a i 0 =
+    ap (λ (l : List ℕ). getD l i 0) (append-assoc (take n a) (take i a) (drop (n + i) a))
+    ∙ List·getD-append (take n a) (take i a ++ drop (n + i) a) 0 i (subst (λ (k : ℕ). i < k) (sym (length-take-le n a (omega arith))) hi)
+    ∙ getD-take n a i 0 hi in
+    ap (set (paste a n a i) (n + i)) front ∙ paste-suc a n a i 0 h (omega arith) ∙ ap (paste a n a) (sym (add-one i))
+
+-- one more byte of the buffer's front is the array's
+pub front-put : (a b : List ℕ) (i : ℕ) → i < length b → i < length a
+    → set (take i a ++ drop i b) i (getD a i 0) ≡ take (i + 1) a ++ drop (i + 1) b
+front-put a b i hb ha = rw add-one (simp zero-add at (paste-suc b 0 a i 0 (rw zero-add hb) ha))
+
+-- the array before the pairs are put: the start, then 0
+abbrev pub started : List ℕ
+started = 1 ∷ 1 ∷ 1 ∷ replicate 121 0
+
+module _ (m : Message) where
+  vs : List ℕ
+  vs = pairsOf (bitsOf (bitCount m) (wordOf m))
+
+  -- the start and the pairs are as long as the frame
+  through : 4 + length vs ≡ frameLength m
+  unfolding vs frameOf
+  through = sym (four-more vs) ∙ frame-length m
+    where
+      four-more : (l : List ℕ) → length (1 ∷ 1 ∷ 1 ∷ 0 ∷ l) ≡ 4 + length l
+      four-more l = omega arith
+
+-- what lies beyond the frame, and beyond both frames, in an array of 124
+beyond-one : (m : Message) → drop (frameLength m) started ≡ replicate (124 - frameLength m) 0
+beyond-one (Address h u) = refl
+beyond-one (Command h f) = refl
+beyond-one (Extended h u d c) = refl
+
+beyond-two : (m : Message) → drop {A = ℕ} (frameLength m) (replicate (124 - frameLength m) 0) ≡ replicate (124 - burstLength m) 0
+beyond-two (Address h u) = refl
+beyond-two (Command h f) = refl
+beyond-two (Extended h u d c) = refl
+
+fits : (m : Message) → frameLength m ≤ length started
+fits (Address h u) = lit≤ tt
+fits (Command h f) = lit≤ tt
+fits (Extended h u d c) = lit≤ tt
+
+pub frame-placed : (m : Message) → sets started 4 (pairsOf (bitsOf (bitCount m) (wordOf m))) ≡ frameOf m ++ replicate (124 - frameLength m) 0
+unfolding vs frameOf
+frame-placed m =
+    sets-eq (vs m) started 4 (subst (λ (k : ℕ). k ≤ length started) (sym (through m)) (fits m))
+    ∙ ap (λ (k : ℕ). (1 ∷ 1 ∷ 1 ∷ 0 ∷ vs m) ++ drop k started) (through m)
+    ∙ ap (λ (l : List ℕ). (1 ∷ 1 ∷ 1 ∷ 0 ∷ vs m) ++ l) (beyond-one m)
+
+pub burst-placed : (m : Message) (a : List ℕ) → a ≡ frameOf m ++ replicate (124 - frameLength m) 0
+    → paste a (frameLength m) a (frameLength m) ≡ burstOf m ++ replicate (124 - burstLength m) 0
+unfolding burstOf
+burst-placed m a e =
+    let f : ℕ = frameLength m in
+    let zeros : List ℕ = replicate (124 - f) 0 in
+    let front : take f a ≡ frameOf m = ap (take f) e ∙ take-at (frameOf m) zeros f (frame-length m) in
+    let rest : drop (f + f) a ≡ replicate (124 - burstLength m) 0 =
+    ap₂ (λ (k : ℕ) (l : List ℕ). drop (k + f) l) (sym (frame-length m)) e
+    ∙ drop-append-add (frameOf m) zeros f
+    ∙ beyond-two m in
+    ap₂ (λ (x y : List ℕ). x ++ x ++ y) front rest
+
+pub burst-taken : (m : Message) (a : List ℕ) → a ≡ burstOf m ++ replicate (124 - burstLength m) 0 → take (burstLength m) a ≡ burstOf m
+burst-taken m a e = ap (take (burstLength m)) e ∙ take-at (burstOf m) (replicate (124 - burstLength m) 0) (burstLength m) (burst-length m)
+
+pub frame-at-most : (m : Message) → frameLength m ≤ 62
+frame-at-most (Address h u) = lit≤ tt
+frame-at-most (Command h f) = lit≤ tt
+frame-at-most (Extended h u d c) = lit≤ tt
+
+pub count-at-most : (m : Message) → bitCount m ≤ 29
+count-at-most (Address h u) = lit≤ tt
+count-at-most (Command h f) = lit≤ tt
+count-at-most (Extended h u d c) = lit≤ tt
+
+-- ---- what the writer owes at each of its three returns: the answer and the buffer
+
+abbrev Owed : BurstAnswer → Message → List ℕ → List ℕ → Type 0
+Owed r m buf after = (answerOf r ≡ burstAnswer m (length buf)) × (after ≡ bufferAfter m buf)
+
+module _ (m : Message) (buf : List ℕ) where
+  pub refused-message : messageOk m ≡ false → Owed RefusedMessage m buf buf
+  unfolding burstAnswer bufferAfter
+  refused-message t = (rw t, rw t)
+
+  pub refused-short : messageOk m ≡ true → length buf < burstLength m → Owed RefusedShort m buf buf
+  unfolding burstAnswer bufferAfter
+  refused-short t h = let s = lt-leb (burstLength m) (length buf) h in (rw (t, s), rw (t, s))
+
+  pub burst-written : (n : ℕ) (a after : List ℕ) → messageOk m ≡ true → n ≡ burstLength m → n ≤ length buf
+      → a ≡ burstOf m ++ replicate (124 - burstLength m) 0 → after ≡ take n a ++ drop n buf → Owed (Written n) m buf after
+  unfolding burstAnswer bufferAfter written
+  burst-written n a after t en h ea e =
+      let s = le-leb (burstLength m) (length buf) (omega arith) in (
+        rw (en, t, s),
+        e ∙ rw (t, s, en) (ap (λ (l : List ℕ). l ++ drop (burstLength m) buf) (burst-taken m a ea)),
+      )

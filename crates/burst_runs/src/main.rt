@@ -1,0 +1,112 @@
+// Shows bursts on standard output: for each message and each length of buffer the number and count that the writer gives, then the
+// whole buffer, in which every byte was a dot before.
+use burst::BurstAnswer;
+use message::Function;
+use message::Message;
+
+// The longest buffer shown.
+const ROOM: usize = 126;
+
+// One line: the name, the number given back, the half-cycles written, and the buffer.
+fn show(name: &[u8], m: Message, length: usize) {
+    let mut space = [b'.'; 126];
+    if ROOM < length {
+        return;
+    }
+    io::write_all(1, name);
+    io::write_all(1, b"\t");
+    let answer = burst::write_burst(m, &mut space[..length]);
+    match answer {
+        BurstAnswer::Written(n) => report(0, n),
+        BurstAnswer::RefusedMessage => report(2, 0),
+        BurstAnswer::RefusedShort => report(9, 0),
+    }
+    let text = digits(space);
+    io::write_all(1, &text[..length]);
+    io::write_all(1, b"\n");
+}
+
+fn report(number: u64, count: usize) {
+    io::print_decimal(1, number);
+    io::write_all(1, b"\t");
+    io::print_decimal(1, count as u64);
+    io::write_all(1, b"\t");
+}
+
+// A half-cycle as a digit; a byte that was not written stays a dot.
+fn digit(b: u8) -> u8 {
+    if b < 2 { b + b'0' } else { b }
+}
+
+fn digits(space: [u8; 126]) -> [u8; 126] {
+    let mut text = space;
+    let mut i = 0;
+    while i < ROOM {
+        text[i] = digit(text[i]);
+        i += 1;
+    }
+    text
+}
+
+fn main() {
+    show(b"A1", Message::Address { house: 0, unit: 0 }, 44);
+    show(b"A1", Message::Address { house: 0, unit: 0 }, 46);
+    show(b"A1", Message::Address { house: 0, unit: 0 }, 43);
+    show(b"A1", Message::Address { house: 0, unit: 0 }, 0);
+    show(
+        b"A ON",
+        Message::Function {
+            house: 0,
+            function: Function::On,
+        },
+        44,
+    );
+    show(
+        b"M13",
+        Message::Address {
+            house: 12,
+            unit: 12,
+        },
+        44,
+    );
+    show(
+        b"P STATUS REQUEST",
+        Message::Function {
+            house: 15,
+            function: Function::StatusRequest,
+        },
+        44,
+    );
+    show(
+        b"B2 C5 31",
+        Message::Extended {
+            house: 1,
+            unit: 1,
+            data: 197,
+            command: 49,
+        },
+        124,
+    );
+    show(
+        b"B2 C5 31",
+        Message::Extended {
+            house: 1,
+            unit: 1,
+            data: 197,
+            command: 49,
+        },
+        126,
+    );
+    show(
+        b"B2 C5 31",
+        Message::Extended {
+            house: 1,
+            unit: 1,
+            data: 197,
+            command: 49,
+        },
+        123,
+    );
+    show(b"house 16", Message::Address { house: 16, unit: 0 }, 44);
+    show(b"unit 16", Message::Address { house: 0, unit: 16 }, 43);
+}
