@@ -1,6 +1,11 @@
 pub mod Runs
 pub mod Steps
-pub mod Frames
+pub mod FrameBits
 pub mod Pasts
 pub mod FrameHeard
-pub mod WholeHeard
+pub mod Rests
+pub mod Whole
+pub mod Standing
+pub mod Hush
+pub mod Told
+pub mod Inversion

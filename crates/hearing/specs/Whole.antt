@@ -1,4 +1,5 @@
--- A burst is heard whole (01, 'The receiver'), for every valid message.
+-- A burst is heard whole, whatever its message (01, 'The receiver'): "A complete frame gives MESSAGE", and a second one "equal to the one just
+-- given .. gives REPEAT and hunting follows"; "two clear half-cycles before a burst, nothing heard, three, heard".
 use Prim.Native.Nat.{ℕ, _-_, _%_, _≤_}
 use mathlib.Core.Path.{_≡_}
 use mathlib.Core.Bool.{true}
@@ -17,7 +18,7 @@ use Rattle.receiver.specs.declared.Event.the-variants.{Nothing, Message as Give
 abbrev pub clear : ℕ → List ℕ
 clear z = replicate z 0
 
--- a valid hunting receiver whose last three half-cycles were 0, whatever its other fields hold
+-- a valid hunting receiver whose last three half-cycles were 0, whatever stands in its other fields; `past` has the latest lowest
 pub record Ready (r : Receiver) : Type 0 where
   pub valid : receiverOk r ≡ true
   pub hunts : r .at ≡ 0
@@ -27,7 +28,7 @@ pub record Ready (r : Receiver) : Type 0 where
 unfoldable pub frameEvents : Message → Event → List Event
 frameEvents m e = replicate (frameLength m - 1) Nothing ++ e ∷ []
 
--- what is said of a burst: nothing but MESSAGE with its message at the frame's end and REPEAT at the burst's end
+-- what is said of a burst: nothing but MESSAGE with its message at the frame's end, and REPEAT at the burst's end
 unfoldable pub burstEvents : Message → List Event
 burstEvents m = frameEvents m (Gives m) ++ frameEvents m Repeat
 
@@ -36,15 +37,17 @@ unfoldable pub lastSix : ℕ → List ℕ → ℕ
 lastSix past [] = past
 lastSix past (h ∷ hs) = lastSix (shifted past h) hs
 
--- the receiver r hears z clear half-cycles and then the burst of m: nothing is said of the clear ones, the burst is heard, and it hunts
+-- A receiver hears z clear half-cycles, of which it says nothing, and then the burst of m.
 pub record Hears (r : Receiver) (z : ℕ) (m : Message) : Type 0 where
   pub events : eventsOf r (clear z ++ burstOf m) ≡ replicate z Nothing ++ burstEvents m
-  pub then : receiverAfter r (clear z ++ burstOf m) ≡ hunting (lastSix (r .past) (clear z ++ burstOf m))
+  -- and then it hunts
+  pub after : receiverAfter r (clear z ++ burstOf m) ≡ hunting (lastSix (r .past) (clear z ++ burstOf m))
 
--- a fresh receiver needs three clear half-cycles or more; one that is ready needs none
+-- A fresh receiver needs three clear half-cycles before the burst; one whose last three were 0 needs no further ones. More do no harm.
 pub record HeardWhole (m : Message) : Type 0 where
   pub fresh : (z : ℕ) → 3 ≤ z → Hears freshReceiver z m
   pub ready : (r : Receiver) (z : ℕ) → Ready r → Hears r z m
 
+-- the theorem: proofs/Whole.antt
 abbrev pub EveryBurstIsHeard : Type 0
 EveryBurstIsHeard = (m : Message) → messageOk m ≡ true → BytesOk m → HeardWhole m

@@ -1,64 +1,56 @@
--- The pairs of a message's frame, as a receiver reads them.
+-- What the receiver's definitions say at each pair of a message's frame, in one record for the three kinds of message.
 --
---     bit-below, half-word, one-more-bit     the bits of a word, read one by one
---     Framed, framed     what the receiver's definitions say at each pair of a valid message's frame
+--     one-more-bit       the bits of a word, read one by one
+--     Framed, framed     the record; every valid message has it
+--     pairs-few          no more than nine pairs are never too many
 use Prim.Native.Nat.{ℕ, zero, suc, _+_, _-_, _*_, _/_, _%_, _^_, _≤_, _<_}
-use mathlib.Core.Path.{_≡_, refl, sym, ap, subst, _∙_}
-use mathlib.Core.Bool.{Bool, true, false, _&&_, _||_}
+use mathlib.Core.Path.{_≡_, refl, sym, ap, _∙_}
+use mathlib.Core.Bool.{true}
 use native.Mathlib.Nat.{div-eq-of-lt}
 use native.Mathlib.Numerals.{add-one}
 use native.Mathlib.Decide.{decLe, ℕ-discrete}
 use native.Mathlib.Omega.{arith}
 use borrow.Author.Tests.{le-leb, lt-leb, eq-eqb, ne-eqb}
-use lib.Dec.{eqb, leb}
 use lib.Pow.{shr-shr, shr-le}
-use Rattle.message.specs.Choice.{pick}
-use Rattle.message.specs.Codes.{codeOf, numberOf, meaningOf, meanings}
+use Rattle.message.specs.Codes.{codeOf, meaningOf, meanings}
 use Rattle.message.specs.Messages.{messageOk, BytesOk}
-use Rattle.message.specs.Words.{nine, wordOf, bitCount, standardOf, extendedOf, functionReading}
+use Rattle.message.specs.Words.{nine, wordOf, bitCount, standardOf}
 use Rattle.message.specs.declared.Message.{Message}
 use Rattle.message.specs.declared.Message.the-variants.{Address, Function as Command, Extended}
-use Rattle.message.specs.declared.Reading.{Reading}
 use Rattle.message.specs.declared.Reading.the-variants.{Whole, Extended as Begun}
 use Rattle.message.proofs.CodeLaws.{code-below}
 use Rattle.message.proofs.WordLaws.{word-below, head-of-extended, standard-of-address, standard-of-function, extended-of-word}
 use Rattle.burst.specs.Frames.{frameLength}
-use Rattle.receiver.specs.Receivers.{pairOf, ninthOf, completeOf, says, pairsOk}
+use Rattle.receiver.specs.Receivers.{pairOf, completeOf, says, pairsOk}
 use Rattle.receiver.specs.declared.Given.{Given}
-use Rattle.receiver.specs.declared.Receiver.{Receiver}
 use Rattle.receiver.specs.declared.Event.the-variants.{Nothing}
-use Rattle.receiver.specs.declared.Heard.{Heard}
 use Rattle.hearing.proofs.Steps.{standing}
-
--- ---- bits
 
 half-word : (w i : ℕ) → w / 2 ^ suc i ≡ w / 2 ^ i / 2
 half-word w i = sym (shr-shr w i 1 ∙ ap (λ (n : ℕ). w / 2 ^ n) (add-one i))
 
--- the bit after the bits so far: the word with one bit fewer left; 28 bits are kept
+-- with the next bit after the bits so far, one bit fewer of the word is left; the receiver keeps 28 of those so far
 pub one-more-bit : (w i : ℕ) → w < 2 ^ 29 → w / 2 ^ suc i % 268435456 * 2 + w / 2 ^ i % 2 ≡ w / 2 ^ i
 one-more-bit w i h =
     let low : w / 2 ^ i ≤ w = shr-le w i in
     rw (half-word w i) (omega arith)
 
--- ---- the frame of a message
-
--- two half-cycles a pair
+-- the half-cycles of n pairs
 abbrev pub twice : ℕ → ℕ
 twice zero = zero
 twice (suc n) = suc (suc (twice n))
 
--- Where i bits of the word are left after a pair, the receiver stands before that pair at 5 + 2 (n - i - 1), which is a.
+-- The receiver is at a before a pair after which i bits of the word are left: a + 2 (i + 1) = 5 + 2 (rest + 1).
 pub record Framed (m : Message) : Type 0 where
-  -- the bits after the first
+  -- the bits that follow the first
   pub rest : ℕ
   pub count : bitCount m ≡ suc rest
-  -- the half-cycles before the last: the start, one of the first pair, and the rest
+  -- the half-cycles before the last: four of the start, one of the first pair, and two for each bit that follows
   pub lead : frameLength m - 1 ≡ suc (suc (suc (suc (suc (twice rest)))))
   pub small : wordOf m < 2 ^ 29
   -- no bit before the first
   pub none : wordOf m / 2 ^ suc rest ≡ 0
-  -- no more pairs than the frame has, before each of a pair's two half-cycles
+  -- "more pairs than its frame has" is not so before either half-cycle of a pair
   pub pairs : (i a : ℕ) → 7 + 2 * rest ≤ a + 2 * suc i → a + 2 * suc i ≤ 8 + 2 * rest → pairsOk a (wordOf m / 2 ^ suc i) ≡ true
   -- a pair that others follow
   pub more : (g : Given) (p q i a b : ℕ) → a + 2 * suc (suc i) ≡ 7 + 2 * rest
@@ -83,6 +75,7 @@ standard m n f s e = record {
   last = λ g p q a b h. rw (eq-eqb (a + 1) 22 (omega arith), e);
 }
 
+-- nine bits that begin an extended message
 begun : (h : ℕ) → standardOf (nine (codeOf h) 7 1) ≡ Begun
 unfolding standardOf meaningOf meanings
 begun h =
