@@ -17,7 +17,8 @@ use Rattle.message.specs.Choice.{pick}
 use Rattle.message.specs.Numbers.{NONE}
 use Rattle.message.specs.Messages.{messageOk, BytesOk}
 use Rattle.message.specs.declared.Message.{Message}
-use Rattle.burst.specs.Frames.{frameLength, burstOf, burstLength}
+use Rattle.burst.specs.Frames.{burstOf, burstLength}
+use Rattle.burst.proofs.FrameLaws.{burst-length}
 use Rattle.receiver.specs.Receivers.{eventNumber, shifted, stepOf}
 use Rattle.receiver.specs.Hearing.{eventsOf, receiverAfter}
 use Rattle.receiver.specs.declared.Heard.{Heard}
@@ -30,14 +31,15 @@ use Rattle.station.specs.declared.Turn.{Turn}
 use Rattle.bench.specs.declared.BenchAnswer.the-variants.{Line}
 use Rattle.bench.specs.declared.BenchTurn.{BenchTurn}
 use Rattle.hearing.specs.Whole.{Ready}
-use Rattle.hearing.proofs.WholeHeard.{Idle, idle-hunting, idle-step}
+use Rattle.hearing.proofs.Rests.{Rests, rests-ready, rests-step, rests-next}
+use Rattle.hearing.proofs.Standing.{standsAt, eventAt, stands-last, repeat-ends}
 use Rattle.access.specs.Calls.{Answer, Moment, linesOf, eventsIn, hears}
 use Rattle.access.specs.Demand3.{SaysDone, timesDone, SentAndHeard, Right, AllRight}
-use Rattle.access.proofs.BurstLaws.{burst-long, burst-most, counted, countedBy, counted-append, clear-briefly}
+use Rattle.access.proofs.BurstLaws.{burst-most, counted, countedBy, counted-append, clear-briefly}
 use Rattle.access.proofs.BenchLaws.{turnAt, Turns}
 use Rattle.access.proofs.Turns.{holding, drawn}
-use Rattle.access.proofs.Standing.{Front, Follows, front-more, whole, Sending, Stands, sending-half, sends-half, who-sends, mark, vacant, Outcome, outcome, ends-here, sends-still, Settles, keeps-sending, is-over, done-whole, counts-on}
-use Rattle.access.proofs.PartHeard.{Cleared, cleared-more, cleared-three, SaysAt, repeat-ends, end-repeats, gives-this, says-cleanly, part-next, part-events, part-event, whole-idle, whole-cleared, given-back, lines-back}
+use Rattle.access.proofs.Standing.{Front, Follows, front-more, front-less, whole, Sending, Stands, sending-half, sends-half, who-sends, mark, vacant, Outcome, outcome, ends-here, sends-still, Settles, keeps-sending, is-over, done-whole, counts-on}
+use Rattle.access.proofs.PartHeard.{end-repeats, gives-this, says-cleanly, part-next, part-events, part-event, sent-and-heard}
 use Rattle.access.proofs.Tally.{total, total-grows, total-rises}
 
 abbrev pub slot : Moment → ℕ → Station
@@ -57,8 +59,10 @@ module _ (n : ℕ) (message : ℕ → Message) (start : List Station) where
 
   -- none sends yet, and all that wait have counted to c
   pub record Quiet (c : ℕ) (now : Moment) : Type 0 where
-    pub idle : Idle (now .receiver)
-    pub cleared : Cleared c (now .receiver .past)
+    -- the receiver has heard as much of it, but for the end of the burst before
+    pub heard : ℕ
+    pub rests : Rests heard (now .receiver)
+    pub near : c ≤ heard + 3
     pub stations : (i : ℕ) → i < n → Stands (message i) [] c (slot now i)
     pub bound : (i : ℕ) → i < n → vacant (slot now i) ≡ 0 → length (now .past) ≤ 134 * total n (now .past) + c
 
@@ -66,7 +70,6 @@ module _ (n : ℕ) (message : ℕ → Message) (start : List Station) where
   pub record Race (z : ℕ) (r : Receiver) (sent : List ℕ) (now : Moment) : Type 0 where
     pub before : List Answer
     pub ready : Ready r
-    pub cleared : Cleared z (r .past)
     pub stations : (i : ℕ) → i < n → Stands (message i) sent (countedBy z sent) (slot now i)
     pub receiver : now .receiver ≡ receiverAfter r sent
     pub lines : linesOf (now .past) ≡ reverseAux sent (linesOf before)
@@ -126,8 +129,7 @@ module _ (n : ℕ) (message : ℕ → Message) (start : List Station) where
     pub quiet-call : Kept (hears now t (Line 0)) × Quiet (c + 1) (hears now t (Line 0))
     unfolding turn
     quiet-call =
-        let heard = idle-step (now .receiver) (Q .idle) in
-        let p : ℕ = now .receiver .past in
+        let heard = rests-step (Q .rests) in
         let nothing : stepOf (now .receiver) 0 .event ≡ Nothing = ap (λ (x : Heard). x .event) heard in
         (
           keeps now draws 0 t T K (λ i l. settled i l .0 .fills)
@@ -136,8 +138,9 @@ module _ (n : ℕ) (message : ℕ → Message) (start : List Station) where
           (λ m e. let z : _≡_ {A = ℕ} 0 1 = cc in absurd (omega arith))
           (ap eventNumber nothing)),
           record {
-            idle = subst Idle (sym (ap (λ (x : Heard). x .next) heard)) (idle-hunting (shifted p 0) (omega arith) (λ e. omega arith));
-            cleared = subst (λ (r : Receiver). Cleared (c + 1) (r .past)) (sym (ap (λ (x : Heard). x .next) heard)) (cleared-more c p (Q .cleared));
+            heard = suc (Q .heard);
+            rests = subst (Rests (suc (Q .heard))) (sym (ap (λ (x : Heard). x .next) heard)) (rests-next (Q .rests));
+            near = omega (arith, Q .near);
             stations = λ i l. subst (λ (s : Station). Stands (message i) [] (c + 1) s) (sym (T .next i l)) (settled i l .0 .stands);
             bound = λ i l v.
               omega (
@@ -158,23 +161,23 @@ module _ (n : ℕ) (message : ℕ → Message) (start : List Station) where
     length-longer : length longer ≡ length sent + 1
     length-longer = length-append sent (h ∷ [])
 
-    brief : h ≡ 0 → countedBy z sent + 1 < 8
-    brief e =
+    few : h ≡ 0 → countedBy z sent ≤ 2
+    few e =
         let f = F .sends .follows in
-        let few = clear-briefly (message (F .who)) z (length sent) (f .more) (same ∙ e) in
-        omega (arith, few, ap (countedBy z) (f .front))
+        subst (λ (hs : List ℕ). countedBy z hs ≤ 2) (f .front) (clear-briefly (message (F .who)) z (length sent) (f .more) (same ∙ e))
 
     out : (i : ℕ) → i < n → Outcome (message i) longer (countedBy z longer) (slot now i) (turnAt h (now .slots) draws i)
     out i l =
         subst (λ (c : ℕ). Outcome (message i) longer c (slot now i) (turnAt h (now .slots) draws i)) (sym (counted-append z sent (h ∷ [])))
-        (outcome (message i) (B .valid i l) sent (countedBy z sent) (slot now i) (getD draws i 0) (T .draw i l) h low (T .above i l) brief (R .stations i l))
+        (outcome (message i) (B .valid i l) sent (countedBy z sent) (slot now i) (getD draws i 0) (T .draw i l) h low (T .above i l) (λ e. omega (arith, few e)) (R .stations i l))
 
     -- what the receiver says is what it says to each burst that begins so
     event : (i : ℕ) → i < n → Front (message i) longer → length sent < burstLength (message i)
-        → SaysAt (message i) (length sent) (stepOf (now .receiver) h .event)
+        → stepOf (now .receiver) h .event ≡ eventAt (message i) (length sent)
     event i l f k =
-        subst (λ (r : Receiver). SaysAt (message i) (length sent) (stepOf r h .event)) (sym (R .receiver))
-        (part-event (message i) (B .valid i l) (B .bytes i l) r (R .ready) sent h f k)
+        let x = front-less (message i) sent h f k in
+        ap (λ (r : Receiver). stepOf r h .event) (R .receiver)
+        ∙ part-event (message i) (B .valid i l) (B .bytes i l) r (R .ready) sent h (x .0) (x .1)
 
     next-receiver : stepOf (now .receiver) h .next ≡ receiverAfter r longer
     next-receiver = ap (λ (r : Receiver). stepOf r h .next) (R .receiver) ∙ sym (part-next r sent h)
@@ -191,16 +194,23 @@ module _ (n : ℕ) (message : ℕ → Message) (start : List Station) where
     ours : Front (message (F .who)) longer
     ours = front-more (message (F .who)) sent h (F .sends .follows) same
 
-    our-event : SaysAt (message (F .who)) (length sent) (stepOf (now .receiver) h .event)
+    our-event : stepOf (now .receiver) h .event ≡ eventAt (message (F .who)) (length sent)
     our-event = event (F .who) (F .below) ours (F .sends .follows .more)
+
+    gives : (g : Message) → stepOf (now .receiver) h .event ≡ Gives g → (i : ℕ) × (i < n) × (message i ≡ g)
+    gives g e = (F .who, F .below, gives-this (message (F .who)) (length sent) g (sym our-event ∙ e))
+
+    cleanly : eventNumber (stepOf (now .receiver) h .event) ≡ NONE
+    cleanly = ap eventNumber our-event ∙ says-cleanly (message (F .who)) (length sent)
 
     -- the burst goes on
     module _ (p : length sent + 1 ≡ burstLength (message (F .who)) → ⊥) where
       none-ends : (i : ℕ) → i < n → burstOf (message i) ≡ longer → ⊥
       none-ends i l e =
-          let long : length sent + 1 ≡ burstLength (message i) = sym length-longer ∙ sym (ap length e) ∙ burst-long (message i) in
+          let long : length sent + 1 ≡ burstLength (message i) = sym length-longer ∙ sym (ap length e) ∙ burst-length (message i) in
           let front : Front (message i) longer = ap (take (length longer)) e ∙ take-length longer in
-          p (repeat-ends our-event (end-repeats (event i l front (omega arith)) long))
+          let repeat = event i l front (omega arith) ∙ end-repeats (message i) (length sent) (omega arith) in
+          p (omega (arith, repeat-ends (message (F .who)) (length sent) (sym our-event ∙ repeat)))
 
       going : (i : ℕ) → i < n
           → Settles (message i) longer (countedBy z longer) (slot now i) (turnAt h (now .slots) draws i)
@@ -211,12 +221,11 @@ module _ (n : ℕ) (message : ℕ → Message) (start : List Station) where
       unfolding turn
       race-goes-on = (
         keeps now draws h t T K (λ i l. going i l .0 .fills)
-        (going-right now draws h t T K (λ i l. going i l .1) (λ e. p (repeat-ends our-event e))
-        (λ g e. (F .who, F .below, gives-this our-event e)) (says-cleanly our-event)),
+        (going-right now draws h t T K (λ i l. going i l .1)
+        (λ e. p (omega (arith, repeat-ends (message (F .who)) (length sent) (sym our-event ∙ e)))) gives cleanly),
         record {
           before = R .before;
           ready = R .ready;
-          cleared = R .cleared;
           stations = λ i l. subst (λ (s : Station). Stands (message i) longer (countedBy z longer) s) (sym (T .next i l)) (going i l .0 .stands);
           receiver = next-receiver;
           lines = next-lines;
@@ -236,12 +245,12 @@ module _ (n : ℕ) (message : ℕ → Message) (start : List Station) where
     -- the burst is over
     module _ (p : length sent + 1 ≡ burstLength (message (F .who))) where
       repeat : stepOf (now .receiver) h .event ≡ Repeat
-      repeat = end-repeats our-event p
+      repeat = our-event ∙ end-repeats (message (F .who)) (length sent) (omega arith)
 
       none-on : (i : ℕ) → i < n → Follows (message i) longer → ⊥
       none-on i l f =
           let more : length sent + 1 < burstLength (message i) = omega (arith, length-longer, f .more) in
-          omega (arith, more, repeat-ends (event i l (f .front) (omega arith)) repeat)
+          omega (arith, more, repeat-ends (message i) (length sent) (sym (event i l (f .front) (omega arith)) ∙ repeat))
 
       over : (i : ℕ) → i < n → Settles (message i) [] (countedBy z longer) (slot now i) (turnAt h (now .slots) draws i)
       over i l = is-over (none-on i l) (out i l)
@@ -259,35 +268,34 @@ module _ (n : ℕ) (message : ℕ → Message) (start : List Station) where
       all-heard : (i : ℕ) → i < n → SaysDone i (newest now draws h t T K) → SentAndHeard (message i) (newest now draws h t T K ∷ now .past)
       all-heard i l d =
           let e : burstOf (message i) ≡ longer = done-whole (out i l) (sym (T .says i l) ∙ d) in
-          record {
-            sent =
-              ap (take (burstLength (message i))) (next-lines ∙ ap (λ (b : List ℕ). reverseAux b (linesOf (R .before))) (sym e))
-              ∙ lines-back (message i) (linesOf (R .before));
-            given =
-              ap (λ (es : List Event). getD es (frameLength (message i)) Nothing)
-              (next-events ∙ ap (λ (b : List ℕ). reverseAux (eventsOf r b) (eventsIn (R .before))) (sym e))
-              ∙ given-back (message i) (B .valid i l) (B .bytes i l) r (R .ready) (eventsIn (R .before));
-            repeated = repeat;
-          }
+          sent-and-heard (newest now draws h t T K ∷ now .past) (R .before) (message i) (B .valid i l) (B .bytes i l) r (R .ready)
+          (next-lines ∙ ap (λ (b : List ℕ). reverseAux b (linesOf (R .before))) (sym e))
+          (next-events ∙ ap (λ (b : List ℕ). reverseAux (eventsOf r b) (eventsIn (R .before))) (sym e))
+
+      -- at most three of the burst's last half-cycles are clear
+      few-clear : countedBy z longer ≤ 3
+      few-clear = rw (counted-append z sent (h ∷ [])) (go h few)
+        where
+          go : (h : ℕ) → (h ≡ 0 → countedBy z sent ≤ 2) → counted (countedBy z sent) h ≤ 3
+          go zero f = omega (arith, f refl)
+          go (suc h) f = omega arith
 
       pub race-over : Kept (hears now t (Line h)) × Quiet (countedBy z longer) (hears now t (Line h))
-      unfolding turn
-      race-over =
-          let valid = B .valid (F .who) (F .below) in
-          let bytes = B .bytes (F .who) (F .below) in (
+      unfolding turn standsAt
+      race-over = (
         keeps now draws h t T K (λ i l. over i l .fills)
         (record {
           done = all-heard;
           repeats = (λ e. (F .who, F .below, our-done), λ d. repeat);
-          gives = λ g e. (F .who, F .below, gives-this our-event e);
-          clean = says-cleanly our-event;
+          gives = gives;
+          clean = cleanly;
         }),
         record {
-          idle = subst Idle (ap (receiverAfter r) our-burst ∙ sym next-receiver) (whole-idle (message (F .who)) valid bytes r (R .ready));
-          cleared =
-            subst (λ (r′ : Receiver). Cleared (countedBy z longer) (r′ .past)) (sym next-receiver)
-            (subst (λ (b : List ℕ). Cleared (countedBy z b) (receiverAfter r b .past)) our-burst
-            (whole-cleared (message (F .who)) valid bytes r (R .ready) z (R .cleared)));
+          heard = 0;
+          rests =
+            subst (Rests 0) (ap (receiverAfter r) (take-length (burstOf (message (F .who))) ∙ our-burst) ∙ sym next-receiver)
+            (stands-last (message (F .who)) (B .valid (F .who) (F .below)) (B .bytes (F .who) (F .below)) r (R .ready));
+          near = few-clear;
           stations = λ i l. subst (λ (s : Station). Stands (message i) [] (countedBy z longer) s) (sym (T .next i l)) (over i l .stands);
           bound = λ i l v.
             omega (
@@ -337,12 +345,7 @@ module _ (n : ℕ) (message : ℕ → Message) (start : List Station) where
         let d = drawn (x .wait) (x .drawn-wait) in
         record {
           before = now .past;
-          ready = record {
-            valid = Q .idle .valid;
-            hunts = Q .idle .hunts;
-            cleared = cleared-three c (now .receiver .past) (omega arith) (Q .cleared);
-          };
-          cleared = Q .cleared;
+          ready = rests-ready (Q .heard) (now .receiver) (omega (arith, Q .near)) (Q .rests);
           stations = Q .stations;
           receiver = refl;
           lines = refl;

@@ -20,16 +20,17 @@ use native.Mathlib.Omega.{arith}
 use borrow.Author.Tests.{eq-eqb, ne-eqb}
 use lib.Dec.{eqb}
 use lib.ListN.{length, getD, take, length-append}
-use lib.Seq.{take-suc, take-all}
+use lib.Seq.{take-suc, take-all, take-take, take-append-seam, getD-take, getD-append-seam}
 use Rattle.message.specs.Choice.{pick}
 use Rattle.message.specs.Messages.{messageOk}
 use Rattle.message.specs.declared.Message.{Message}
 use Rattle.burst.specs.Frames.{burstOf, burstLength}
+use Rattle.burst.proofs.FrameLaws.{burst-length, burst-halves}
 use Rattle.station.specs.declared.Station.{Station}
 use Rattle.station.specs.declared.Turn.{Turn}
 use Rattle.station.specs.declared.TurnAnswer.the-variants.{Going, Done}
 use Rattle.station.specs.Stations.{emptyStation, drawOk, stationOk, isEmpty, sendsOf, sending, turnOf, isDone}
-use Rattle.access.proofs.BurstLaws.{burst-long, burst-some, burst-half, burst-first, counted}
+use Rattle.access.proofs.BurstLaws.{burst-some, burst-first, counted}
 use Rattle.access.proofs.Turns.{holding, goes, drawn, empty-turn, waiting-ok, sending-ok, waiting-sends, sending-sends, waiting-turn, sending-turn}
 
 -- the burst of m begins with what was sent
@@ -48,11 +49,22 @@ length-more sent h = length-append sent (h ∷ [])
 pub front-more : (m : Message) (sent : List ℕ) (h : ℕ) → Follows m sent → getD (burstOf m) (length sent) 0 ≡ h → Front m (sent ++ h ∷ [])
 front-more m sent h f e =
     ap (λ (k : ℕ). take k (burstOf m)) (length-more sent h ∙ add-one (length sent))
-    ∙ take-suc (burstOf m) (length sent) 0 (omega (arith, burst-long m, f .more))
+    ∙ take-suc (burstOf m) (length sent) 0 (omega (arith, burst-length m, f .more))
     ∙ ap₂ (λ (l : List ℕ) (x : ℕ). l ++ x ∷ []) (f .front) e
 
+-- and back
+pub front-less : (m : Message) (sent : List ℕ) (h : ℕ) → Front m (sent ++ h ∷ []) → length sent < burstLength m
+    → Follows m sent × (getD (burstOf m) (length sent) 0 ≡ h)
+front-less m sent h f l =
+    let k : ℕ = length sent in
+    let e : take (suc k) (burstOf m) ≡ sent ++ h ∷ [] = ap (λ (k : ℕ). take k (burstOf m)) (sym (length-more sent h ∙ add-one k)) ∙ f in
+    (
+      record { front = sym (take-take k (suc k) (burstOf m) (omega arith)) ∙ ap (take k) e ∙ take-append-seam sent (h ∷ []); more = l },
+      sym (getD-take (suc k) (burstOf m) k 0 (omega arith)) ∙ ap (λ (l : List ℕ). getD l k 0) e ∙ getD-append-seam sent h [] 0,
+    )
+
 pub whole : (m : Message) (sent : List ℕ) → Front m sent → length sent ≡ burstLength m → burstOf m ≡ sent
-whole m sent f e = sym (take-all (length sent) (burstOf m) (omega (arith, burst-long m))) ∙ f
+whole m sent f e = sym (take-all (length sent) (burstOf m) (omega (arith, burst-length m))) ∙ f
 
 -- ---- the three ways
 
@@ -91,7 +103,7 @@ module _ (m : Message) (valid : messageOk m ≡ true) (sent : List ℕ) (z : ℕ
   unfolding sendsOf
   sends-half s (gone e) = omega (arith, ap sendsOf e)
   sends-half s (waiting w d l e) = omega (arith, ap sendsOf e ∙ waiting-sends m w valid d z l)
-  sends-half s (sends x) = omega (arith, sending-half s x, burst-half m (length sent))
+  sends-half s (sends x) = omega (arith, sending-half s x, burst-halves m (length sent))
 
   pub who-sends : (s : Station) → Stands m sent z s → 1 ≤ sendsOf s → Sending m sent z s
   unfolding sendsOf

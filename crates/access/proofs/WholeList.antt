@@ -15,7 +15,7 @@ use Rattle.bench.specs.Benches.{drawsOk, benchOf}
 use Rattle.bench.specs.declared.BenchAnswer.{BenchAnswer}
 use Rattle.bench.specs.declared.BenchAnswer.the-variants.{Line}
 use Rattle.bench.specs.declared.BenchTurn.{BenchTurn}
-use Rattle.hearing.proofs.WholeHeard.{idle-fresh}
+use Rattle.hearing.proofs.Rests.{rests-fresh}
 use Rattle.access.specs.Calls.{Moment, atStart, hears, call, run, Drawn}
 use Rattle.access.specs.Demand3.{Start, timesDone, Claim, Demand3}
 use Rattle.access.proofs.BurstLaws.{burst-most, countedBy}
@@ -49,7 +49,7 @@ module _ (n : ℕ) (message : ℕ → Message) (draw : ℕ → ℕ) (slots : Lis
       tally = λ i l. sym (ap vacant (S .loaded i l ∙ loading i l .fresh));
       right = tt;
     };
-    state = quiet 0 (record { idle = idle-fresh; cleared = tt; stations = at-first; bound = λ i l v. omega arith });
+    state = quiet 0 (record { heard = 0; rests = rests-fresh; near = omega arith; stations = at-first; bound = λ i l v. omega arith });
   }
 
   -- each station is in a state of 01
