@@ -1,4 +1,8 @@
 -- Demand 3 for every list of calls: what holds at the start is kept by each call, and says what is claimed.
+--
+--     Reached, at-start, reached     what holds at the start and after any list of calls
+--     Called, called, then-reached   one call
+--     demand-3                       the theorem of specs/Demand3.antt
 use mathlib.Core.Path.{_≡_, refl, sym, ap, subst, _∙_}
 use mathlib.Core.Bool.{Bool, true, false}
 use mathlib.Core.List.{List, [], _∷_}
@@ -21,9 +25,14 @@ use Rattle.access.specs.Demand3.{Start, timesDone, Claim, Demand3}
 use Rattle.access.proofs.BurstLaws.{burst-most, countedBy}
 use Rattle.access.proofs.Turns.{drawn, Accepted, accepted}
 use Rattle.access.proofs.Standing.{Stands, gone, waiting, sends, stands-ok, mark, vacant}
-use Rattle.access.proofs.BenchLaws.{bench-number, bench-refuses, bench-turns}
+use Rattle.access.proofs.BenchLaws.{Turns, bench-number, bench-refuses, bench-turns}
 use Rattle.access.proofs.Tally.{total, total-short}
 use Rattle.access.proofs.Moments.{slot, Bench, Kept, Quiet, Race, Sender, State, quiet, busy, next-state}
+
+-- a call is refused and changes nothing, or turns every station
+pub data Called (n : ℕ) (now : Moment) (draws : List ℕ) : Type 0 where
+  refused : call n now draws ≡ now → Called n now draws
+  taken : (h : ℕ) (t : BenchTurn) → Turns n (now .slots) draws h t → call n now draws ≡ hears now t (Line h) → Called n now draws
 
 module _ (n : ℕ) (message : ℕ → Message) (draw : ℕ → ℕ) (slots : List Station) (S : Start n message draw slots) where
   loading : (i : ℕ) → i < n → Accepted (message i) (draw i)
@@ -41,7 +50,7 @@ module _ (n : ℕ) (message : ℕ → Message) (draw : ℕ → ℕ) (slots : Lis
     pub kept : Kept n message slots now
     pub state : State n message slots now
 
-  at-start : Reached (atStart slots)
+  pub at-start : Reached (atStart slots)
   at-start = record {
     kept = record {
       room = S .room;
@@ -65,21 +74,29 @@ module _ (n : ℕ) (message : ℕ → Message) (draw : ℕ → ℕ) (slots : Lis
         ap (λ (t : BenchTurn). hears now t (t .answer))
         (bench-refuses n (now .slots) draws (S .some) (S .most) (H .kept .room) (all-ok now (H .state)) e)
 
-    one-call : (draws : List ℕ) → n ≤ length draws → Reached (call n now draws)
+    pub called : (draws : List ℕ) → n ≤ length draws → Called n now draws
     unfolding call
-    one-call draws enough = go (drawsOk (take n draws)) refl
+    called draws enough = go (drawsOk (take n draws)) refl
       where
-        go : (b : Bool) → drawsOk (take n draws) ≡ b → Reached (call n now draws)
-        go false e = subst Reached (sym (stays draws e)) H
+        go : (b : Bool) → drawsOk (take n draws) ≡ b → Called n now draws
+        go false e = refused (stays draws e)
         go true e =
             let t = bench-turns n (now .slots) draws (S .some) (S .most) (H .kept .room) (all-ok now (H .state)) enough e in
-            let x = next-state n message slots bench now draws (benchOf n (now .slots) draws) (H .kept) (H .state) (t .0) (t .1) in
-            subst Reached (sym (ap (hears now (benchOf n (now .slots) draws)) (t .1 .answers))) (record { kept = x .0; state = x .1 })
+            taken (t .0) (benchOf n (now .slots) draws) (t .1) (ap (hears now (benchOf n (now .slots) draws)) (t .1 .answers))
 
-  pub reached : (calls : List (List ℕ)) → Drawn n calls → Reached (run n (atStart slots) calls)
+    pub then-reached : (draws : List ℕ) (h : ℕ) (t : BenchTurn) → Turns n (now .slots) draws h t → Reached (hears now t (Line h))
+    then-reached draws h t T =
+        let x = next-state n message slots bench now draws t (H .kept) (H .state) h T in
+        record { kept = x .0; state = x .1 }
+
+  pub reached : (now : Moment) → Reached now → (calls : List (List ℕ)) → Drawn n calls → Reached (run n now calls)
   unfolding run
-  reached [] d = at-start
-  reached (draws ∷ calls) d = one-call (run n (atStart slots) calls) (reached calls (d .1)) draws (d .0)
+  reached now H [] d = H
+  reached now H (draws ∷ calls) d = let G = reached now H calls (d .1) in go G (called (run n now calls) G draws (d .0))
+    where
+      go : Reached (run n now calls) → Called n (run n now calls) draws → Reached (call n (run n now calls) draws)
+      go G (refused e) = subst Reached (sym e) G
+      go G (taken h t T e) = subst Reached (sym e) (then-reached (run n now calls) G draws h t T)
 
   -- ---- what is claimed
 
@@ -124,4 +141,6 @@ module _ (n : ℕ) (message : ℕ → Message) (draw : ℕ → ℕ) (slots : Lis
     }
 
 pub demand-3 : Demand3
-demand-3 n message draw slots S calls d = claim n message draw slots S (run n (atStart slots) calls) (reached n message draw slots S calls d)
+demand-3 n message draw slots S calls d =
+    claim n message draw slots S (run n (atStart slots) calls)
+    (reached n message draw slots S (atStart slots) (at-start n message draw slots S) calls d)
