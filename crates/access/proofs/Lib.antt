@@ -6,3 +6,4 @@ pub mod BenchLaws
 pub mod Tally
 pub mod Moments
 pub mod WholeList
+pub mod Compare

@@ -5,25 +5,26 @@
 --     empty-ok, waiting-ok, sending-ok          such a station is in a state of 01
 --     empty-sends, waiting-sends, sending-sends     what it sends
 --     empty-turn, waiting-turn, sending-turn    what a half-cycle makes of it
-use mathlib.Core.Path.{_≡_, refl, sym, ap, ap₂, _∙_}
+use mathlib.Core.Path.{_≡_, refl, sym, ap, subst}
 use mathlib.Core.Bool.{Bool, true, false, _&&_, _||_, and-eq-true-iff, or-true}
 use Prim.Native.Nat.{ℕ, zero, suc, _+_, _≤_, _<_}
 use native.Mathlib.Omega.{arith}
-use borrow.Author.Tests.{le-leb, lt-ltb, eq-eqb, ne-eqb, leb-true}
+use borrow.Author.Tests.{le-leb, lt-ltb, eq-eqb, ne-eqb, leb-true, eqb-true}
 use lib.Dec.{eqb, leb, ltb}
 use lib.ListN.{getD}
 use Rattle.message.specs.Choice.{pick}
 use Rattle.message.specs.Messages.{messageOk}
 use Rattle.message.specs.declared.Message.{Message}
 use Rattle.burst.specs.Frames.{burstOf, burstLength}
+use Rattle.station.specs.declared.Held.{Held}
 use Rattle.station.specs.declared.Held.the-variants.{Empty, Holds}
 use Rattle.station.specs.declared.Station.{Station}
 use Rattle.station.specs.declared.LoadAnswer.{LoadAnswer}
 use Rattle.station.specs.declared.LoadAnswer.the-variants as load
 use Rattle.station.specs.declared.Loading.{Loading}
-use Rattle.station.specs.declared.TurnAnswer.the-variants.{Going}
+use Rattle.station.specs.declared.TurnAnswer.the-variants.{Going, Done}
 use Rattle.station.specs.declared.Turn.{Turn}
-use Rattle.station.specs.Stations.{emptyStation, loadNumber, drawOk, stationOk, loaded, loadOf, sendsOf, waits, sending, turnOf}
+use Rattle.station.specs.Stations.{emptyStation, loadNumber, drawOk, stationOk, loaded, loadOf, sendsOf, waits, sendsOn, sending, heldMoves, turnOf}
 use Rattle.access.proofs.BurstLaws.{burst-some}
 
 abbrev pub holding : Message → ℕ → ℕ → ℕ → Station
@@ -86,3 +87,34 @@ module _ (m : Message) (w : ℕ) (valid : messageOk m ≡ true) (wait : drawOk w
     unfolding turnOf
     sending-turn k l u =
         simp (le-leb h 1 low, sending-ok k l, draw, sending-sends k, le-leb (getD (burstOf m) k 0) h u, eq-eqb w w refl)
+
+-- ---- any station that holds a message
+
+-- it is done where its burst is over, and else holds the message at a place at most one further
+pub data Moves (m : Message) (s : Station) (t : Turn) : Type 0 where
+  ends : s .place + 1 ≡ burstLength m → t ≡ record { answer = Done; next = emptyStation } → Moves m s t
+  holds : t .next .held ≡ Holds m → t .next .place ≤ s .place + 1 → Moves m s t
+
+module _ (m : Message) (s : Station) (h d : ℕ) where
+  moves-waiting : (b : Bool) → Moves m s (goes (pick b (loaded m d) (holding m (s .wait) (s .count + 1) 0)))
+  moves-waiting true = holds refl (omega arith)
+  moves-waiting false = holds refl (omega arith)
+
+  moves-on : (b : Bool) → eqb (s .place + 1) (burstLength m) ≡ b
+      → Moves m s (pick b (record { answer = Done; next = emptyStation }) (goes (holding m (s .wait) (s .count) (s .place + 1))))
+  moves-on true e = ends (eqb-true (s .place + 1) (burstLength m) e) refl
+  moves-on false e = holds refl (omega arith)
+
+  moves-sending : (b : Bool) → Moves m s (pick b (sendsOn m (s .wait) (s .count) (s .place)) (goes (loaded m d)))
+  moves-sending true = moves-on (eqb (s .place + 1) (burstLength m)) refl
+  moves-sending false = holds refl (omega arith)
+
+  moves-held : (b : Bool) → Moves m s (pick b (sending m (s .wait) (s .count) (s .place) h d) (goes (waits m (s .wait) (s .count) h d)))
+  moves-held true = moves-sending (eqb (getD (burstOf m) (s .place) 0) h)
+  moves-held false = moves-waiting (eqb h 1)
+
+  pub moves : s .held ≡ Holds m → stationOk s ≡ true → h ≤ 1 → drawOk d ≡ true → sendsOf s ≤ h → Moves m s (turnOf s h d)
+  unfolding turnOf
+  moves e ok low draw u =
+      simp (le-leb h 1 low, ok, draw, le-leb (sendsOf s) h u)
+      (subst (λ (x : Held). Moves m s (heldMoves x s h d)) (sym e) (moves-held (eqb (s .count) (s .wait))))
