@@ -7,3 +7,4 @@ pub mod Tally
 pub mod Moments
 pub mod WholeList
 pub mod Compare
+pub mod StartTogether

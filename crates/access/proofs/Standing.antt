@@ -13,12 +13,9 @@ use mathlib.Core.Path.{_≡_, refl, sym, ap, ap₂, _∙_}
 use mathlib.Core.Bool.{Bool, true, false, false≢true}
 use mathlib.Core.List.{List, [], _∷_, _++_}
 use Prim.Native.Nat.{ℕ, zero, suc, _+_, _≤_, _<_}
-use native.Mathlib.Nat.{le-of-eq}
 use native.Mathlib.Numerals.{add-one}
 use native.Mathlib.Decide.{ℕ-discrete}
 use native.Mathlib.Omega.{arith}
-use borrow.Author.Tests.{eq-eqb, ne-eqb}
-use lib.Dec.{eqb}
 use lib.ListN.{length, getD, take, length-append}
 use lib.Seq.{take-suc, take-all, take-take, take-append-seam, getD-take, getD-append-seam}
 use Rattle.message.specs.Choice.{pick}
@@ -29,9 +26,9 @@ use Rattle.burst.proofs.FrameLaws.{burst-length, burst-halves}
 use Rattle.station.specs.declared.Station.{Station}
 use Rattle.station.specs.declared.Turn.{Turn}
 use Rattle.station.specs.declared.TurnAnswer.the-variants.{Going, Done}
-use Rattle.station.specs.Stations.{emptyStation, drawOk, stationOk, isEmpty, sendsOf, sending, turnOf, isDone}
+use Rattle.station.specs.Stations.{emptyStation, drawOk, stationOk, isEmpty, sendsOf, turnOf, isDone}
 use Rattle.access.proofs.BurstLaws.{burst-some, burst-first, counted}
-use Rattle.access.proofs.Turns.{holding, goes, drawn, empty-turn, waiting-ok, sending-ok, waiting-sends, sending-sends, waiting-turn, sending-turn}
+use Rattle.access.proofs.Turns.{holding, goes, drawn, empty-turn, waiting-ok, sending-ok, waiting-sends, sending-sends, waiting-turn, ends-turn, sends-turn, yields-turn}
 
 -- the burst of m begins with what was sent
 abbrev pub Front : Message → List ℕ → Type 0
@@ -140,21 +137,18 @@ module _ (m : Message) (valid : messageOk m ≡ true) (sent : List ℕ) (z : ℕ
     abbrev half : ℕ
     half = getD (burstOf m) (length sent) 0
 
-    turned : half ≤ h → turnOf s h d ≡ sending m (x .wait) (x .wait) (length sent) h d
-    turned u =
-        ap (λ (s : Station). turnOf s h d) (x .is)
-        ∙ sending-turn m (x .wait) valid (x .drawn-wait) h d low hd (length sent) (x .follows .more) u
+    turned : {t : Turn} → turnOf (holding m (x .wait) (x .wait) (length sent)) h d ≡ t → turnOf s h d ≡ t
+    turned e = ap (λ (s : Station). turnOf s h d) (x .is) ∙ e
 
     -- a station that sends what is heard: at the burst's end, and before
     pub ends-here : half ≡ h → length sent + 1 ≡ burstLength m → turnOf s h d ≡ record { answer = Done; next = emptyStation }
-    ends-here same p = turned (le-of-eq same) ∙ simp (eq-eqb half h same, eq-eqb (length sent + 1) (burstLength m) p)
+    ends-here same p = turned (ends-turn m (x .wait) valid (x .drawn-wait) h d low hd (length sent) (x .follows .more) same p)
 
     sends-here : half ≡ h → (length sent + 1 ≡ burstLength m → ⊥)
         → turnOf s h d ≡ goes (holding m (x .wait) (x .wait) (length (sent ++ h ∷ [])))
     sends-here same p =
-        turned (le-of-eq same)
-        ∙ simp (eq-eqb half h same, ne-eqb (length sent + 1) (burstLength m) p)
-        (ap (λ (k : ℕ). goes (holding m (x .wait) (x .wait) k)) (sym (length-more sent h)))
+        turned (sends-turn m (x .wait) valid (x .drawn-wait) h d low hd (length sent) (x .follows .more) same p)
+        ∙ ap (λ (k : ℕ). goes (holding m (x .wait) (x .wait) k)) (sym (length-more sent h))
 
     goes-further : half ≡ h → (length sent + 1 ≡ burstLength m → ⊥) → Follows m (sent ++ h ∷ [])
     goes-further same p = record {
@@ -183,7 +177,8 @@ module _ (m : Message) (valid : messageOk m ≡ true) (sent : List ℕ) (z : ℕ
         let one : h ≡ 1 = omega arith in
         let none : counted z h ≡ 0 = ap (counted z) one in
         waits-on d hd (omega (arith, none, drawn d hd)) (holds (x .is))
-        (turned (omega arith) ∙ simp (ne-eqb half h (λ q. omega arith)) (ap (λ (c : ℕ). goes (holding m d c 0)) (sym none)))
+        (turned (yields-turn m (x .wait) valid (x .drawn-wait) h d low hd (length sent) (x .follows .more) less)
+        ∙ ap (λ (c : ℕ). goes (holding m d c 0)) (sym none))
 
     sent-or-not : Dec (half ≡ h) → half ≤ h → After h d
     sent-or-not (yes p) l = carries-on p (ℕ-discrete (length sent + 1) (burstLength m))

@@ -4,10 +4,13 @@
 --     accepted-message, accepted-draw, accepted-station     what loading has accepted, and left
 --     empty-ok, waiting-ok, sending-ok          such a station is in a state of 01
 --     empty-sends, waiting-sends, sending-sends     what it sends
---     empty-turn, waiting-turn, sending-turn    what a half-cycle makes of it
-use mathlib.Core.Path.{_≡_, refl, sym, ap, subst}
+--     empty-turn, waiting-turn      what a half-cycle makes of it
+--     ends-turn, sends-turn, yields-turn        and of one that sends, by what is heard
+--     Moves, moves                  what it makes of any station that holds a message
+use mathlib.Core.Path.{_≡_, refl, sym, ap, subst, _∙_}
 use mathlib.Core.Bool.{Bool, true, false, _&&_, _||_, and-eq-true-iff, or-true}
 use Prim.Native.Nat.{ℕ, zero, suc, _+_, _≤_, _<_}
+use native.Mathlib.Nat.{le-of-eq}
 use native.Mathlib.Omega.{arith}
 use borrow.Author.Tests.{le-leb, lt-ltb, eq-eqb, ne-eqb, leb-true, eqb-true}
 use lib.Dec.{eqb, leb, ltb}
@@ -83,10 +86,24 @@ module _ (m : Message) (w : ℕ) (valid : messageOk m ≡ true) (wait : drawOk w
     waiting-turn c l =
         simp (le-leb h 1 low, waiting-ok c (omega arith), draw, waiting-sends c l, le-leb 0 h (omega arith), ne-eqb c w (λ e. omega arith))
 
-    pub sending-turn : (k : ℕ) → k < burstLength m → getD (burstOf m) k 0 ≤ h → turnOf (holding m w w k) h d ≡ sending m w w k h d
-    unfolding turnOf
-    sending-turn k l u =
-        simp (le-leb h 1 low, sending-ok k l, draw, sending-sends k, le-leb (getD (burstOf m) k 0) h u, eq-eqb w w refl)
+    -- a station that sends the half-cycle at place k
+    module _ (k : ℕ) (short : k < burstLength m) where
+      abbrev half : ℕ
+      half = getD (burstOf m) k 0
+
+      sending-turn : half ≤ h → turnOf (holding m w w k) h d ≡ sending m w w k h d
+      unfolding turnOf
+      sending-turn u = simp (le-leb h 1 low, sending-ok k short, draw, sending-sends k, le-leb half h u, eq-eqb w w refl)
+
+      pub ends-turn : half ≡ h → k + 1 ≡ burstLength m → turnOf (holding m w w k) h d ≡ record { answer = Done; next = emptyStation }
+      ends-turn e l = sending-turn (le-of-eq e) ∙ simp (eq-eqb half h e, eq-eqb (k + 1) (burstLength m) l)
+
+      pub sends-turn : half ≡ h → (k + 1 ≡ burstLength m → ⊥) → turnOf (holding m w w k) h d ≡ goes (holding m w w (k + 1))
+      sends-turn e n = sending-turn (le-of-eq e) ∙ simp (eq-eqb half h e, ne-eqb (k + 1) (burstLength m) n)
+
+      -- it sends 0 and hears 1
+      pub yields-turn : half < h → turnOf (holding m w w k) h d ≡ goes (holding m d 0 0)
+      yields-turn l = sending-turn (omega arith) ∙ simp (ne-eqb half h (λ e. omega arith))
 
 -- ---- any station that holds a message
 
