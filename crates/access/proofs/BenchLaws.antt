@@ -5,17 +5,16 @@
 --     line-above, line-some        the line is no less than what a station sends; it is 0, or what some station sends
 --     Turns, bench-turns           a call that is not refused, as these say
 --     bench-number, bench-refuses  a call that its draws refuse
-use mathlib.Core.Path.{_≡_, refl, sym, ap, ap₂, _∙_}
+use mathlib.Core.Path.{_≡_, refl, ap, _∙_}
 use mathlib.Core.Logic.{_⊎_, inl, inr}
-use mathlib.Core.Bool.{Bool, true, false, _&&_, and-eq-true-iff}
-use mathlib.Core.List.{List, [], _∷_, _++_}
-use Prim.Native.Nat.{ℕ, zero, suc, _+_, _-_, _≤_, _<_, max, zero-le, suc-le-suc}
+use mathlib.Core.Bool.{Bool, true, false, and-eq-true-iff}
+use mathlib.Core.List.{List, [], _∷_}
+use Prim.Native.Nat.{ℕ, zero, suc, _-_, _≤_, _<_, max, zero-le, suc-le-suc}
 use native.Mathlib.Nat.{le-of-suc-le-suc, not-suc-le-zero}
 use native.Mathlib.Decide.{decLe}
 use native.Mathlib.Omega.{arith}
 use borrow.Author.Tests.{le-leb}
-use lib.Dec.{leb}
-use lib.ListN.{length, getD, take, drop, replicate, length-append, List·getD-append}
+use lib.ListN.{length, getD, take, drop, replicate, List·getD-append}
 use lib.Seq.{length-take-le, length-front, drop-at, getD-take}
 use Rattle.message.specs.Choice.{pick}
 use Rattle.message.specs.Numbers.{NONE, DRAW}
@@ -161,13 +160,13 @@ module _ (n : ℕ) (slots : List Station) (draws : List ℕ) (low : 1 ≤ n) (hi
           same = length-front slots moves n many;
           beyond = drop-at moves (drop n slots) n (many ∙ count);
           next = λ i h.
-            List·getD-append moves (drop n slots) emptyStation i (omega (arith, many, count))
-            ∙ moved line (take n slots) (take n draws) i (omega (arith, count)) (omega (arith, drawn))
-            ∙ ap (λ (t : Turn). t .next) (taken-turn i h);
+              List·getD-append moves (drop n slots) emptyStation i (omega (arith, many, count))
+              ∙ moved line (take n slots) (take n draws) i (omega (arith, count)) (omega (arith, drawn))
+              ∙ ap (λ (t : Turn). t .next) (taken-turn i h);
           says = λ i h.
-            List·getD-append marks (replicate (length slots - n) false) false i (omega (arith, each, count))
-            ∙ marked line (take n slots) (take n draws) i (omega (arith, count)) (omega (arith, drawn))
-            ∙ ap (λ (t : Turn). isDone (t .answer)) (taken-turn i h);
+              List·getD-append marks (replicate (length slots - n) false) false i (omega (arith, each, count))
+              ∙ marked line (take n slots) (take n draws) i (omega (arith, count)) (omega (arith, drawn))
+              ∙ ap (λ (t : Turn). isDone (t .answer)) (taken-turn i h);
           draw = λ i h. rw (getD-take n draws i 0 h) at (ok-each (take n draws) fine i (omega (arith, drawn)));
           above = λ i h. rw (getD-take n slots i emptyStation h) at (line-above (take n slots) i (omega (arith, count)));
           some = some-sends (line-some (take n slots));

@@ -6,14 +6,14 @@
 --     clear-briefly              a 0 of a burst comes after at most two clear half-cycles
 use mathlib.Core.Path.{_≡_, refl}
 use mathlib.Core.List.{List, [], _∷_, _++_}
-use Prim.Native.Nat.{ℕ, zero, suc, _+_, _-_, _≤_, _<_}
+use Prim.Native.Nat.{ℕ, zero, suc, _+_, _≤_, _<_}
 use native.Mathlib.Nat.{le-of-suc-le-suc, not-suc-le-zero}
 use native.Mathlib.Omega.{arith}
 use lib.ListN.{length, getD, take}
 use Rattle.message.specs.Words.{wordOf, bitCount}
 use Rattle.message.specs.declared.Message.{Message}
 use Rattle.message.specs.declared.Message.the-variants.{Address, Function as Command, Extended}
-use Rattle.burst.specs.Frames.{bitsOf, pairsOf, frameOf, burstOf, burstLength}
+use Rattle.burst.specs.Frames.{pairsOf, frameOf, burstOf, burstLength}
 use Rattle.burst.proofs.FrameLaws.{burst-length}
 use Rattle.hearing.proofs.Pasts.{Bits, bits-of}
 

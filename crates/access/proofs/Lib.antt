@@ -1,6 +1,6 @@
 pub mod BurstLaws
 pub mod Turns
-pub mod Standing
+pub mod StationStates
 pub mod PartHeard
 pub mod BenchLaws
 pub mod Tally

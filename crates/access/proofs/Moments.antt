@@ -5,27 +5,25 @@
 --     quiet-call, race-call     one call
 use mathlib.Core.Path.{_≡_, refl, sym, ap, ap₂, subst, _∙_}
 use mathlib.Core.Logic.{_⊎_, inl, inr}
-use mathlib.Core.Bool.{Bool, true, false, false≢true}
-use mathlib.Core.List.{List, [], _∷_, _++_, reverse, reverseAux, reverseAux-append}
-use Prim.Native.Nat.{ℕ, zero, suc, _+_, _*_, _%_, _≤_, _<_}
-use native.Mathlib.Numerals.{add-one}
+use mathlib.Core.Bool.{true, false, false≢true}
+use mathlib.Core.List.{List, [], _∷_, _++_, reverseAux, reverseAux-append}
+use Prim.Native.Nat.{ℕ, zero, suc, _+_, _*_, _≤_, _<_}
 use native.Mathlib.Decide.{ℕ-discrete}
 use native.Mathlib.Omega.{arith}
 use lib.ListN.{length, getD, take, drop, length-append}
 use lib.Seq.{take-length}
-use Rattle.message.specs.Choice.{pick}
 use Rattle.message.specs.Numbers.{NONE}
 use Rattle.message.specs.Messages.{messageOk, BytesOk}
 use Rattle.message.specs.declared.Message.{Message}
 use Rattle.burst.specs.Frames.{burstOf, burstLength}
 use Rattle.burst.proofs.FrameLaws.{burst-length}
-use Rattle.receiver.specs.Receivers.{eventNumber, shifted, stepOf}
+use Rattle.receiver.specs.Receivers.{eventNumber, stepOf}
 use Rattle.receiver.specs.Hearing.{eventsOf, receiverAfter}
 use Rattle.receiver.specs.declared.Heard.{Heard}
 use Rattle.receiver.specs.declared.Receiver.{Receiver}
 use Rattle.receiver.specs.declared.Event.{Event}
 use Rattle.receiver.specs.declared.Event.the-variants.{Nothing, Message as Gives, Repeat}
-use Rattle.station.specs.Stations.{emptyStation, drawOk, sendsOf, turnOf, isDone}
+use Rattle.station.specs.Stations.{emptyStation, sendsOf, isDone}
 use Rattle.station.specs.declared.Station.{Station}
 use Rattle.station.specs.declared.Turn.{Turn}
 use Rattle.bench.specs.declared.BenchAnswer.the-variants.{Line}
@@ -34,11 +32,11 @@ use Rattle.hearing.specs.Whole.{Ready}
 use Rattle.hearing.proofs.Rests.{Rests, rests-ready, rests-step, rests-next}
 use Rattle.hearing.proofs.Standing.{standsAt, eventAt, stands-last, repeat-ends}
 use Rattle.access.specs.Calls.{Answer, Moment, linesOf, eventsIn, hears}
-use Rattle.access.specs.Demand3.{SaysDone, timesDone, SentAndHeard, Right, AllRight}
+use Rattle.access.specs.Demand3.{callsEach, SaysDone, timesDone, SentAndHeard, Right, AllRight}
 use Rattle.access.proofs.BurstLaws.{burst-most, counted, countedBy, counted-append, clear-briefly}
 use Rattle.access.proofs.BenchLaws.{turnAt, Turns}
-use Rattle.access.proofs.Turns.{holding, drawn}
-use Rattle.access.proofs.Standing.{Front, Follows, front-more, front-less, whole, Sending, Stands, sending-half, sends-half, who-sends, mark, vacant, Outcome, outcome, ends-here, sends-still, Settles, keeps-sending, is-over, done-whole, counts-on}
+use Rattle.access.proofs.Turns.{drawn}
+use Rattle.access.proofs.StationStates.{Front, Follows, front-more, front-less, whole, Sending, Stands, sending-half, sends-half, who-sends, mark, vacant, Outcome, outcome, ends-here, sends-still, Settles, keeps-sending, is-over, done-whole, counts-on}
 use Rattle.access.proofs.PartHeard.{end-repeats, gives-this, says-cleanly, part-next, part-events, part-event, sent-and-heard}
 use Rattle.access.proofs.Tally.{total, total-grows, total-rises}
 
@@ -64,7 +62,7 @@ module _ (n : ℕ) (message : ℕ → Message) (start : List Station) where
     pub rests : Rests heard (now .receiver)
     pub near : c ≤ heard + 3
     pub stations : (i : ℕ) → i < n → Stands (message i) [] c (slot now i)
-    pub bound : (i : ℕ) → i < n → vacant (slot now i) ≡ 0 → length (now .past) ≤ 134 * total n (now .past) + c
+    pub bound : (i : ℕ) → i < n → vacant (slot now i) ≡ 0 → length (now .past) ≤ callsEach * total n (now .past) + c
 
   -- a burst on the line, before which z clear half-cycles were counted and the receiver stood at r
   pub record Race (z : ℕ) (r : Receiver) (sent : List ℕ) (now : Moment) : Type 0 where
@@ -74,7 +72,7 @@ module _ (n : ℕ) (message : ℕ → Message) (start : List Station) where
     pub receiver : now .receiver ≡ receiverAfter r sent
     pub lines : linesOf (now .past) ≡ reverseAux sent (linesOf before)
     pub events : eventsIn (now .past) ≡ reverseAux (eventsOf r sent) (eventsIn before)
-    pub bound : length (now .past) ≤ 134 * total n (now .past) + 10 + length sent
+    pub bound : length (now .past) ≤ callsEach * total n (now .past) + 10 + length sent
 
   -- some station sends
   pub record Sender (z : ℕ) (sent : List ℕ) (now : Moment) : Type 0 where
@@ -130,24 +128,23 @@ module _ (n : ℕ) (message : ℕ → Message) (start : List Station) where
     unfolding turn
     quiet-call =
         let heard = rests-step (Q .rests) in
-        let nothing : stepOf (now .receiver) 0 .event ≡ Nothing = ap (λ (x : Heard). x .event) heard in
-        (
+        let nothing : stepOf (now .receiver) 0 .event ≡ Nothing = ap (λ (x : Heard). x .event) heard in (
           keeps now draws 0 t T K (λ i l. settled i l .0 .fills)
-          (going-right now draws 0 t T K (λ i l. settled i l .1)
-          (λ e. let z : _≡_ {A = ℕ} 0 1 = cc in absurd (omega arith))
-          (λ m e. let z : _≡_ {A = ℕ} 0 1 = cc in absurd (omega arith))
-          (ap eventNumber nothing)),
+              (going-right now draws 0 t T K (λ i l. settled i l .1)
+              (λ e. let z : _≡_ {A = ℕ} 0 1 = cc in absurd (omega arith))
+              (λ m e. let z : _≡_ {A = ℕ} 0 1 = cc in absurd (omega arith))
+              (ap eventNumber nothing)),
           record {
             heard = suc (Q .heard);
             rests = subst (Rests (suc (Q .heard))) (sym (ap (λ (x : Heard). x .next) heard)) (rests-next (Q .rests));
             near = omega (arith, Q .near);
             stations = λ i l. subst (λ (s : Station). Stands (message i) [] (c + 1) s) (sym (T .next i l)) (settled i l .0 .stands);
             bound = λ i l v.
-              omega (
-                arith,
-                total-grows n (newest now draws 0 t T K) (now .past),
-                Q .bound i l (omega (arith, settled i l .0 .fills, ap vacant (T .next i l))),
-              );
+                omega (
+                  arith,
+                  total-grows n (newest now draws 0 t T K) (now .past),
+                  Q .bound i l (omega (arith, settled i l .0 .fills, ap vacant (T .next i l))),
+                );
           },
         )
 
@@ -221,8 +218,8 @@ module _ (n : ℕ) (message : ℕ → Message) (start : List Station) where
       unfolding turn
       race-goes-on = (
         keeps now draws h t T K (λ i l. going i l .0 .fills)
-        (going-right now draws h t T K (λ i l. going i l .1)
-        (λ e. p (omega (arith, repeat-ends (message (F .who)) (length sent) (sym our-event ∙ e)))) gives cleanly),
+            (going-right now draws h t T K (λ i l. going i l .1)
+            (λ e. p (omega (arith, repeat-ends (message (F .who)) (length sent) (sym our-event ∙ e)))) gives cleanly),
         record {
           before = R .before;
           ready = R .ready;
@@ -236,9 +233,9 @@ module _ (n : ℕ) (message : ℕ → Message) (start : List Station) where
           who = F .who;
           below = F .below;
           sends =
-            subst (λ (s : Station). Sending (message (F .who)) longer (countedBy z longer) s) (sym (T .next (F .who) (F .below)))
-            (sends-still (message (F .who)) (B .valid (F .who) (F .below)) sent (countedBy z sent) (slot now (F .who)) h (getD draws (F .who) 0) low
-            (T .draw (F .who) (F .below)) (F .sends) same p (countedBy z longer));
+              subst (λ (s : Station). Sending (message (F .who)) longer (countedBy z longer) s) (sym (T .next (F .who) (F .below)))
+              (sends-still (message (F .who)) (B .valid (F .who) (F .below)) sent (countedBy z sent) (slot now (F .who)) h (getD draws (F .who) 0) low
+              (T .draw (F .who) (F .below)) (F .sends) same p (countedBy z longer));
         },
       )
 
@@ -284,26 +281,26 @@ module _ (n : ℕ) (message : ℕ → Message) (start : List Station) where
       unfolding turn standsAt
       race-over = (
         keeps now draws h t T K (λ i l. over i l .fills)
-        (record {
-          done = all-heard;
-          repeats = (λ e. (F .who, F .below, our-done), λ d. repeat);
-          gives = gives;
-          clean = cleanly;
-        }),
+            (record {
+              done = all-heard;
+              repeats = (λ e. (F .who, F .below, our-done), λ d. repeat);
+              gives = gives;
+              clean = cleanly;
+            }),
         record {
           heard = 0;
           rests =
-            subst (Rests 0) (ap (receiverAfter r) (take-length (burstOf (message (F .who))) ∙ our-burst) ∙ sym next-receiver)
-            (stands-last (message (F .who)) (B .valid (F .who) (F .below)) (B .bytes (F .who) (F .below)) r (R .ready));
+              subst (Rests 0) (ap (receiverAfter r) (take-length (burstOf (message (F .who))) ∙ our-burst) ∙ sym next-receiver)
+              (stands-last (message (F .who)) (B .valid (F .who) (F .below)) (B .bytes (F .who) (F .below)) r (R .ready));
           near = few-clear;
           stations = λ i l. subst (λ (s : Station). Stands (message i) [] (countedBy z longer) s) (sym (T .next i l)) (over i l .stands);
           bound = λ i l v.
-            omega (
-              arith,
-              R .bound,
-              total-rises n (newest now draws h t T K) (now .past) (F .who) (F .below) our-done,
-              burst-most (message (F .who)),
-            );
+              omega (
+                arith,
+                R .bound,
+                total-rises n (newest now draws h t T K) (now .past) (F .who) (F .below) our-done,
+                burst-most (message (F .who)),
+              );
         },
       )
 
@@ -367,6 +364,9 @@ module _ (n : ℕ) (message : ℕ → Message) (start : List Station) where
     next-state (quiet c Q) h T = quiet-next c Q h T
     next-state (busy z r sent R l F) zero T =
         race-next 0 T z r sent R F (omega arith)
-        (omega (arith, T .above (F .who) (F .below),
-          sending-half (message (F .who)) (B .valid (F .who) (F .below)) sent (countedBy z sent) (slot now (F .who)) (F .sends)))
+        (omega (
+          arith,
+          T .above (F .who) (F .below),
+          sending-half (message (F .who)) (B .valid (F .who) (F .below)) sent (countedBy z sent) (slot now (F .who)) (F .sends),
+        ))
     next-state (busy z r sent R l F) (suc h) T = race-one h T z r sent R

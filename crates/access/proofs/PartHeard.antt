@@ -3,10 +3,10 @@
 --     end-repeats, gives-this, says-cleanly     what is said at a place of a burst
 --     part-next, part-events, part-event        one half-cycle more
 --     sent-and-heard                            a burst that is whole, looked back on
-use mathlib.Core.Path.{_≡_, refl, sym, ap, ap₂, subst, _∙_}
+use mathlib.Core.Path.{_≡_, refl, sym, ap, ap₂, _∙_}
 use mathlib.Core.Bool.{Bool, true, false}
 use mathlib.Core.List.{List, [], _∷_, _++_, reverse, reverseAux, reverseAux-eq}
-use Prim.Native.Nat.{ℕ, suc, _+_, _<_}
+use Prim.Native.Nat.{ℕ, suc}
 use native.Mathlib.Omega.{arith}
 use borrow.Author.Tests.{eq-eqb, ne-eqb}
 use lib.Dec.{eqb}
@@ -32,7 +32,7 @@ use Rattle.hearing.proofs.Standing.{standsAt, eventAt, stands-step}
 use Rattle.access.specs.Calls.{Answer, linesOf, eventsIn}
 use Rattle.access.specs.Demand3.{SentAndHeard}
 use Rattle.access.proofs.BurstLaws.{burst-some}
-use Rattle.access.proofs.Standing.{Follows}
+use Rattle.access.proofs.StationStates.{Follows}
 
 -- ---- at a place of a burst
 

@@ -8,38 +8,35 @@
 use mathlib.Core.Path.{_≡_, refl, sym, ap, ap₂, subst, _∙_}
 use mathlib.Core.Logic.{_⊎_, inl, inr}
 use mathlib.Core.Bool.{Bool, true, false, false≢true}
-use mathlib.Core.List.{List, [], _∷_, _++_, reverse, reverse-append, head-eq-of-cons-eq, tail-eq-of-cons-eq}
-use Prim.Native.Nat.{ℕ, zero, suc, _+_, _≤_, _<_}
-use native.Mathlib.Nat.{le-of-eq}
+use mathlib.Core.List.{List, [], _∷_, reverse, reverse-append, head-eq-of-cons-eq, tail-eq-of-cons-eq}
+use Prim.Native.Nat.{ℕ, suc, _+_, _≤_, _<_}
 use native.Mathlib.Numerals.{add-one}
 use native.Mathlib.Decide.{ℕ-discrete}
 use native.Mathlib.Omega.{arith}
-use borrow.Author.Tests.{eq-eqb, ne-eqb}
 use lib.Dec.{eqb}
 use lib.ListN.{length, getD, take}
 use lib.Seq.{take-suc}
 use Rattle.message.specs.Choice.{pick}
 use Rattle.message.specs.Messages.{messageOk}
 use Rattle.message.specs.declared.Message.{Message}
-use Rattle.burst.specs.Frames.{frameOf, burstOf, burstLength}
-use Rattle.burst.proofs.FrameLaws.{burst-length, burst-halves}
+use Rattle.burst.specs.Frames.{burstOf, burstLength}
+use Rattle.burst.proofs.FrameLaws.{burst-length}
 use Rattle.station.specs.Stations.{emptyStation, drawOk, stationOk, isEmpty, sendsOf, turnOf}
 use Rattle.station.specs.declared.Held.{Held}
 use Rattle.station.specs.declared.Held.the-variants.{Holds}
 use Rattle.station.specs.declared.Station.{Station}
 use Rattle.station.specs.declared.Turn.{Turn}
-use Rattle.station.specs.declared.TurnAnswer.the-variants.{Done}
 use Rattle.bench.specs.declared.BenchAnswer.the-variants.{Line}
 use Rattle.bench.specs.declared.BenchTurn.{BenchTurn}
 use Rattle.access.specs.Calls.{Moment, linesOf, atStart, hears, call, run, Drawn}
 use Rattle.access.specs.Demand3.{Start, timesDone}
-use Rattle.access.specs.Together.{Starts, notGreater, Greatest, Later, GreatestWins, EqualsFinishTogether}
+use Rattle.access.specs.Together.{Starts, Greatest, Later, GreatestWins, EqualsFinishTogether}
 use Rattle.access.proofs.BurstLaws.{burst-some, countedBy}
-use Rattle.access.proofs.Turns.{holding, goes, empty-turn, sending-sends, waiting-turn, ends-turn, sends-turn, yields-turn, Moves, ends, holds, moves}
-use Rattle.access.proofs.Standing.{Front, Follows, Sending, Stands, gone, waiting, sends, stands-ok, sending-half, sends-half, who-sends, mark, vacant}
+use Rattle.access.proofs.Turns.{holding, empty-turn, sending-sends, waiting-turn, ends-turn, sends-turn, yields-turn, Moves, ends, holds, moves}
+use Rattle.access.proofs.StationStates.{Sending, Stands, gone, waiting, sends, stands-ok, sending-half, sends-half, who-sends, mark, vacant}
 use Rattle.access.proofs.BenchLaws.{Turns}
-use Rattle.access.proofs.Moments.{slot, Bench, State, quiet, busy}
-use Rattle.access.proofs.WholeList.{Called, refused, taken, bench, Reached, at-start, called, then-reached, reached}
+use Rattle.access.proofs.Moments.{slot, State, quiet, busy}
+use Rattle.access.proofs.WholeList.{Called, refused, taken, bench, Reached, at-start, called, reached}
 use Rattle.access.proofs.Compare.{not-ahead}
 
 -- ---- the line and a burst
@@ -93,8 +90,8 @@ module _ (m : Message) (valid : messageOk m ≡ true) (s : Station) (ok : statio
     wait = a .wait;
     drawn-wait = a .drawn-wait;
     is =
-      turned (a .is) (sends-turn m (a .wait) valid (a .drawn-wait) h d low hd k l e n)
-      ∙ ap (λ (k : ℕ). holding m (a .wait) (a .wait) k) (add-one k);
+        turned (a .is) (sends-turn m (a .wait) valid (a .drawn-wait) h d low hd k l e n)
+        ∙ ap (λ (k : ℕ). holding m (a .wait) (a .wait) k) (add-one k);
   }
 
   track-turn : (lines : List ℕ) → k < burstLength m → Track m k lines s → Track m (suc k) (h ∷ lines) (turnOf s h d .next)
@@ -218,7 +215,7 @@ module _ (n : ℕ) (message : ℕ → Message) (draw : ℕ → ℕ) (slots : Lis
         → length (run n now more .past) ≡ length (now .past) + k → Track (message i) k (linesOf (run n now more .past)) (slot (run n now more) i)
     track i l st more d k short e =
         let q = later P (λ u. along (starts-along i l st) (omega (arith, burst-some (message i))) refl)
-            (λ k x G draws h t T low p u. track-next x G draws h t T low i l k u (p (omega arith))) more d in
+        (λ k x G draws h t T low p u. track-next x G draws h t T low i l k u (p (omega arith))) more d in
         let same : q .0 ≡ k = omega (arith, q .1) in
         subst (λ (k : ℕ). P k (run n now more)) same (q .2) short
       where
@@ -318,7 +315,7 @@ module _ (n : ℕ) (message : ℕ → Message) (draw : ℕ → ℕ) (slots : Lis
                   e,
                   sending-half (message i) (valid i l) (A .sent) (A .count) (slot x i) theirs,
                   not-ahead (message i) (message w) (valid i l) (S .bytes i l) (valid w (Gr .below)) (S .bytes w (Gr .below)) (A .sent) (theirs .follows .front)
-                    (our-place .0 .follows .front) (Gr .greatest i l st),
+                      (our-place .0 .follows .front) (Gr .greatest i l st),
                   ap (λ (k : ℕ). getD (burstOf (message w)) k 0) (our-place .1),
                 )
 
@@ -335,9 +332,9 @@ module _ (n : ℕ) (message : ℕ → Message) (draw : ℕ → ℕ) (slots : Lis
           → Racing k x → Racing (suc k) (hears x t (Line h))
       racing-next k x G draws h t T low R = record {
         leads = λ l.
-          subst (Along (message w) (suc k)) (sym (T .next w (Gr .below)))
-          (along-turn (message w) (valid w (Gr .below)) (slot x w) (ok x G draws h t T low w (Gr .below)) h (getD draws w 0) low (T .draw w (Gr .below))
-          (T .above w (Gr .below)) k (R .leads (omega arith)) (omega arith) (line-is x G draws h t T low k R (omega arith)) (λ e. omega arith));
+            subst (Along (message w) (suc k)) (sym (T .next w (Gr .below)))
+            (along-turn (message w) (valid w (Gr .below)) (slot x w) (ok x G draws h t T low w (Gr .below)) h (getD draws w 0) low (T .draw w (Gr .below))
+            (T .above w (Gr .below)) k (R .leads (omega arith)) (omega arith) (line-is x G draws h t T low k R (omega arith)) (λ e. omega arith));
         carried = λ l. carried-more (message w) k h (linesOf (x .past)) l (line-is x G draws h t T low k R l) (R .carried (omega arith));
         others = λ i l. go i l (R .others i l);
       }

@@ -3,9 +3,9 @@
 --     total           the sum over the stations
 --     total-grows     it never falls, and rises with a DONE
 --     total-short     it is below n while one of them has yet to say DONE
-use mathlib.Core.Path.{_≡_, refl, sym, ap, _∙_}
-use mathlib.Core.Bool.{Bool, true, false}
-use mathlib.Core.List.{List, [], _∷_}
+use mathlib.Core.Path.{_≡_, refl, ap}
+use mathlib.Core.Bool.{false}
+use mathlib.Core.List.{List, _∷_}
 use Prim.Native.Nat.{ℕ, zero, suc, _+_, _≤_, _<_}
 use native.Mathlib.Nat.{not-suc-le-zero}
 use native.Mathlib.Decide.{ℕ-discrete}
@@ -13,7 +13,7 @@ use native.Mathlib.Omega.{arith}
 use lib.ListN.{getD}
 use Rattle.access.specs.Calls.{Answer}
 use Rattle.access.specs.Demand3.{SaysDone, timesDone}
-use Rattle.access.proofs.Standing.{mark}
+use Rattle.access.proofs.StationStates.{mark}
 
 -- the sum of f below n
 abbrev sum : (ℕ → ℕ) → ℕ → ℕ

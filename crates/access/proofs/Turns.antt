@@ -8,23 +8,21 @@
 --     ends-turn, sends-turn, yields-turn        and of one that sends, by what is heard
 --     Moves, moves                  what it makes of any station that holds a message
 use mathlib.Core.Path.{_≡_, refl, sym, ap, subst, _∙_}
-use mathlib.Core.Bool.{Bool, true, false, _&&_, _||_, and-eq-true-iff, or-true}
-use Prim.Native.Nat.{ℕ, zero, suc, _+_, _≤_, _<_}
+use mathlib.Core.Bool.{Bool, true, false, and-eq-true-iff, or-true}
+use Prim.Native.Nat.{ℕ, _+_, _≤_, _<_}
 use native.Mathlib.Nat.{le-of-eq}
 use native.Mathlib.Omega.{arith}
 use borrow.Author.Tests.{le-leb, lt-ltb, eq-eqb, ne-eqb, leb-true, eqb-true}
-use lib.Dec.{eqb, leb, ltb}
+use lib.Dec.{eqb, leb}
 use lib.ListN.{getD}
 use Rattle.message.specs.Choice.{pick}
 use Rattle.message.specs.Messages.{messageOk}
 use Rattle.message.specs.declared.Message.{Message}
 use Rattle.burst.specs.Frames.{burstOf, burstLength}
 use Rattle.station.specs.declared.Held.{Held}
-use Rattle.station.specs.declared.Held.the-variants.{Empty, Holds}
+use Rattle.station.specs.declared.Held.the-variants.{Holds}
 use Rattle.station.specs.declared.Station.{Station}
-use Rattle.station.specs.declared.LoadAnswer.{LoadAnswer}
 use Rattle.station.specs.declared.LoadAnswer.the-variants as load
-use Rattle.station.specs.declared.Loading.{Loading}
 use Rattle.station.specs.declared.TurnAnswer.the-variants.{Going, Done}
 use Rattle.station.specs.declared.Turn.{Turn}
 use Rattle.station.specs.Stations.{emptyStation, loadNumber, drawOk, stationOk, loaded, loadOf, sendsOf, waits, sendsOn, sending, heldMoves, turnOf}

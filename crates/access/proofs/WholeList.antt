@@ -6,28 +6,25 @@
 use mathlib.Core.Path.{_≡_, refl, sym, ap, subst, _∙_}
 use mathlib.Core.Bool.{Bool, true, false}
 use mathlib.Core.List.{List, [], _∷_}
-use Prim.Native.Nat.{ℕ, zero, suc, _+_, _*_, _≤_, _<_}
+use Prim.Native.Nat.{ℕ, _*_, _≤_, _<_}
 use native.Mathlib.Decide.{ℕ-discrete}
 use native.Mathlib.Omega.{arith}
-use lib.ListN.{length, getD, take, drop}
-use Rattle.message.specs.Messages.{messageOk}
+use lib.ListN.{length, getD, take}
 use Rattle.message.specs.declared.Message.{Message}
-use Rattle.burst.specs.Frames.{burstLength}
 use Rattle.station.specs.Stations.{emptyStation, isEmpty, stationOk}
 use Rattle.station.specs.declared.Station.{Station}
 use Rattle.bench.specs.Benches.{drawsOk, benchOf}
-use Rattle.bench.specs.declared.BenchAnswer.{BenchAnswer}
 use Rattle.bench.specs.declared.BenchAnswer.the-variants.{Line}
 use Rattle.bench.specs.declared.BenchTurn.{BenchTurn}
 use Rattle.hearing.proofs.Rests.{rests-fresh}
 use Rattle.access.specs.Calls.{Moment, atStart, hears, call, run, Drawn}
-use Rattle.access.specs.Demand3.{Start, timesDone, Claim, Demand3}
+use Rattle.access.specs.Demand3.{callsEach, Start, timesDone, Claim, Demand3}
 use Rattle.access.proofs.BurstLaws.{burst-most, countedBy}
 use Rattle.access.proofs.Turns.{drawn, Accepted, accepted}
-use Rattle.access.proofs.Standing.{Stands, gone, waiting, sends, stands-ok, mark, vacant}
+use Rattle.access.proofs.StationStates.{Stands, gone, waiting, sends, stands-ok, mark, vacant}
 use Rattle.access.proofs.BenchLaws.{Turns, bench-number, bench-refuses, bench-turns}
 use Rattle.access.proofs.Tally.{total, total-short}
-use Rattle.access.proofs.Moments.{slot, Bench, Kept, Quiet, Race, Sender, State, quiet, busy, next-state}
+use Rattle.access.proofs.Moments.{slot, Bench, Kept, State, quiet, busy, next-state}
 
 -- a call is refused and changes nothing, or turns every station
 pub data Called (n : ℕ) (now : Moment) (draws : List ℕ) : Type 0 where
@@ -116,14 +113,14 @@ module _ (n : ℕ) (message : ℕ → Message) (draw : ℕ → ℕ) (slots : Lis
     count-low c i v (sends x) = omega (arith, x .begun refl, drawn (x .wait) (x .drawn-wait))
 
     -- while one station is not done, the calls are fewer
-    not-yet : (i : ℕ) → i < n → vacant (slot now i) ≡ 0 → State n message slots now → length (now .past) < 134 * n
+    not-yet : (i : ℕ) → i < n → vacant (slot now i) ≡ 0 → State n message slots now → length (now .past) < callsEach * n
     not-yet i l v s = go s (total-short n (now .past) once i l (H .kept .tally i l ∙ v))
       where
-        go : State n message slots now → total n (now .past) < n → length (now .past) < 134 * n
+        go : State n message slots now → total n (now .past) < n → length (now .past) < callsEach * n
         go (quiet c Q) k = omega (arith, Q .bound i l v, count-low c i v (Q .stations i l))
         go (busy z r sent R j F) k = omega (arith, R .bound, F .sends .follows .more, burst-most (message (F .who)))
 
-    all-done : 134 * n ≤ length (now .past) → (i : ℕ) → i < n → timesDone i (now .past) ≡ 1
+    all-done : callsEach * n ≤ length (now .past) → (i : ℕ) → i < n → timesDone i (now .past) ≡ 1
     all-done many i l = go (ℕ-discrete (vacant (slot now i)) 0)
       where
         go : Dec (vacant (slot now i) ≡ 0) → timesDone i (now .past) ≡ 1
@@ -134,8 +131,8 @@ module _ (n : ℕ) (message : ℕ → Message) (draw : ℕ → ℕ) (slots : Lis
     claim = record {
       refused = λ draws. bench-number n (now .slots) draws (S .some) (S .most) (H .kept .room) (all-ok now (H .state));
       unchanged = stays now H;
-      within = all-done;
-      once = once;
+      within = λ many i l. omega (arith, all-done many i l);
+      once = λ i l. omega (arith, once i l);
       answers = H .kept .right;
       beyond = H .kept .beyond;
     }

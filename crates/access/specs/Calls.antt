@@ -49,12 +49,12 @@ hears now turn RefusedDraw = record { slots = turn .slots; receiver = now .recei
 unfoldable pub call : ℕ → Moment → List ℕ → Moment
 call n now draws = hears now (benchOf n (now .slots) draws) (benchOf n (now .slots) draws .answer)
 
--- the calls of a list, each given by its draws, the newest first
+-- the calls of a list, newest first like their answers, each given by its draws
 unfoldable pub run : ℕ → Moment → List (List ℕ) → Moment
 run n now [] = now
 run n now (draws ∷ earlier) = call n (run n now earlier) draws
 
--- each call has whatever draws, but "a draw for each" of its n stations
+-- the draws are whatever numbers, but there is "a draw for each" of the n stations
 abbrev pub Drawn : ℕ → List (List ℕ) → Type 0
 Drawn n [] = Unit {0}
 Drawn n (draws ∷ earlier) = (n ≤ length draws) × Drawn n earlier

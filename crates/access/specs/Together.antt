@@ -1,4 +1,5 @@
--- Stations that start together (01, 'Station and bench'): whose burst is on the line, and who finishes with whom.
+-- Stations that start together (01, 'Station and bench'): whose burst is on the line, and who finishes with whom. The moments are those of
+-- demand 3. The theorems: proofs/StartTogether.antt.
 use Prim.Native.Nat.{ℕ, _+_, _≤_, _<_}
 use mathlib.Core.Path.{_≡_}
 use mathlib.Core.Bool.{Bool, true, false}
@@ -14,7 +15,7 @@ use Rattle.station.specs.declared.Station.{Station}
 use Rattle.access.specs.Calls.{Moment, linesOf, atStart, run, Drawn}
 use Rattle.access.specs.Demand3.{Start, timesDone}
 
--- a station with the message m that has counted its wait and sent nothing: the next half-cycle is the first of its burst
+-- a station with the message m that has counted its wait and sent nothing: "it sends from the next half-cycle"
 pub record Starts (m : Message) (s : Station) : Type 0 where
   pub holds : s .held ≡ Holds m
   pub counted : s .count ≡ s .wait
@@ -32,27 +33,31 @@ pub record Greatest (n : ℕ) (message : ℕ → Message) (now : Moment) (w : �
   pub starts : Starts (message w) (getD (now .slots) w emptyStation)
   pub greatest : (i : ℕ) → i < n → Starts (message i) (getD (now .slots) i emptyStation) → notGreater (frameOf (message i)) (frameOf (message w)) ≡ true
 
--- a moment that a list of calls reaches, and one that is k answers later
+-- two moments of one list of calls
 pub record Later (n : ℕ) (message : ℕ → Message) (now then : Moment) (k : ℕ) : Type 0 where
+  -- a start as in demand 3
   pub draw : ℕ → ℕ
   pub slots : List Station
   pub start : Start n message draw slots
+  -- from which some calls lead to the first
   pub calls : List (List ℕ)
   pub drawn : Drawn n calls
   pub reaches : run n (atStart slots) calls ≡ now
+  -- and more calls to the second, k of them not refused
   pub more : List (List ℕ)
   pub drawn-more : Drawn n more
   pub leads : run n now more ≡ then
   pub answers : length (then .past) ≡ length (now .past) + k
 
--- "Of those that start together, the burst on the line is that of the frame which is greatest when compared half-cycle by half-cycle."
+-- "Of those that start together, the burst on the line is that of the frame which is greatest when compared half-cycle by half-cycle.": of the
+-- k half-cycles since, newest first, up to its end.
 abbrev pub GreatestWins : Type 0
 GreatestWins =
     (n : ℕ) (message : ℕ → Message) (now then : Moment) (k w : ℕ) → Later n message now then k → Greatest n message now w → k ≤ burstLength (message w)
     → take k (linesOf (then .past)) ≡ reverse (take k (burstOf (message w)))
 
--- "Stations with equal messages may finish together": those that start together do. Until the burst that starts now can be over, the one has
--- said DONE as often as the other.
+-- "Stations with equal messages may finish together": those that start together do. As long as the burst takes that starts now, the one has
+-- said DONE exactly when the other has.
 abbrev pub EqualsFinishTogether : Type 0
 EqualsFinishTogether =
     (n : ℕ) (message : ℕ → Message) (now then : Moment) (k i j : ℕ) → Later n message now then k → i < n → j < n → message i ≡ message j

@@ -25,7 +25,7 @@ use Rattle.burst.specs.Frames.{burstOf, burstLength}
 use Rattle.burst.proofs.FrameLaws.{burst-length, burst-halves}
 use Rattle.station.specs.declared.Station.{Station}
 use Rattle.station.specs.declared.Turn.{Turn}
-use Rattle.station.specs.declared.TurnAnswer.the-variants.{Going, Done}
+use Rattle.station.specs.declared.TurnAnswer.the-variants.{Done}
 use Rattle.station.specs.Stations.{emptyStation, drawOk, stationOk, isEmpty, sendsOf, turnOf, isDone}
 use Rattle.access.proofs.BurstLaws.{burst-some, burst-first, counted}
 use Rattle.access.proofs.Turns.{holding, goes, drawn, empty-turn, waiting-ok, sending-ok, waiting-sends, sending-sends, waiting-turn, ends-turn, sends-turn, yields-turn}
@@ -54,8 +54,7 @@ pub front-less : (m : Message) (sent : List ℕ) (h : ℕ) → Front m (sent ++ 
     → Follows m sent × (getD (burstOf m) (length sent) 0 ≡ h)
 front-less m sent h f l =
     let k : ℕ = length sent in
-    let e : take (suc k) (burstOf m) ≡ sent ++ h ∷ [] = ap (λ (k : ℕ). take k (burstOf m)) (sym (length-more sent h ∙ add-one k)) ∙ f in
-    (
+    let e : take (suc k) (burstOf m) ≡ sent ++ h ∷ [] = ap (λ (k : ℕ). take k (burstOf m)) (sym (length-more sent h ∙ add-one k)) ∙ f in (
       record { front = sym (take-take k (suc k) (burstOf m) (omega arith)) ∙ ap (take k) e ∙ take-append-seam sent (h ∷ []); more = l },
       sym (getD-take (suc k) (burstOf m) k 0 (omega arith)) ∙ ap (λ (l : List ℕ). getD l k 0) e ∙ getD-append-seam sent h [] 0,
     )
@@ -219,11 +218,13 @@ pub keeps-sending : {m : Message} {sent : List ℕ} {z : ℕ} {s : Station} {t :
     → Settles m sent z s t × (isDone (t .answer) ≡ false)
 keeps-sending l n (still-gone e p) = (settles-gone e p, ap (λ (t : Turn). isDone (t .answer)) p)
 keeps-sending l n (waits-on w d b v p) = (settles-waiting w d b v p, ap (λ (t : Turn). isDone (t .answer)) p)
-keeps-sending {s = s} l n (sends-on w d f v p) =
-    (record {
-      stands = sends (record { wait = w; drawn-wait = d; begun = λ e. absurd (omega arith); follows = f; is = ap (λ (t : Turn). t .next) p });
-      fills = quietly s p v;
-    }, ap (λ (t : Turn). isDone (t .answer)) p)
+keeps-sending {s = s} l n (sends-on w d f v p) = (
+  record {
+    stands = sends (record { wait = w; drawn-wait = d; begun = λ e. absurd (omega arith); follows = f; is = ap (λ (t : Turn). t .next) p });
+    fills = quietly s p v;
+  },
+  ap (λ (t : Turn). isDone (t .answer)) p,
+)
 keeps-sending l n (ends e v p) = absurd (n e)
 
 -- the burst is over: none sends on
