@@ -32,7 +32,7 @@ use Rattle.access.specs.Calls.{Moment, linesOf, atStart, hears, call, ru
 use Rattle.access.specs.Demand3.{Start, timesDone}
 use Rattle.access.specs.Together.{Starts, Greatest, Later, GreatestWins, EqualsFinishTogether}
 use Rattle.access.proofs.BurstLaws.{burst-some, countedBy}
-use Rattle.access.proofs.Turns.{holding, empty-turn, sending-sends, waiting-turn, ends-turn, sends-turn, yields-turn, Moves, ends, holds, moves}
+use Rattle.access.proofs.Turns.{holding, next-of, empty-turn, sending-sends, waiting-turn, ends-turn, sends-turn, yields-turn, Moves, ends, holds, moves}
 use Rattle.access.proofs.StationStates.{Sending, Stands, gone, waiting, sends, stands-ok, sending-half, sends-half, who-sends, mark, vacant}
 use Rattle.access.proofs.BenchLaws.{Turns}
 use Rattle.access.proofs.Moments.{slot, State, quiet, busy}
@@ -83,7 +83,7 @@ module _ (m : Message) (valid : messageOk m ≡ true) (s : Station) (ok : statio
   along-half a = ap sendsOf (a .is) ∙ sending-sends m (a .wait) valid (a .drawn-wait) k
 
   turned : {t : Turn} {s′ : Station} → s ≡ s′ → turnOf s′ h d ≡ t → turnOf s h d .next ≡ t .next
-  turned e p = ap (λ (s : Station). turnOf s h d .next) e ∙ ap (λ (t : Turn). t .next) p
+  turned e p = ap (λ (s : Station). turnOf s h d .next) e ∙ next-of p
 
   along-turn : Along m k s → k < burstLength m → getD (burstOf m) k 0 ≡ h → (k + 1 ≡ burstLength m → ⊥) → Along m (suc k) (turnOf s h d .next)
   along-turn a l e n = record {
@@ -122,7 +122,7 @@ module _ (m : Message) (valid : messageOk m ≡ true) (s : Station) (ok : statio
   aside-turn (late p q) = go (moves m s h d p ok low hd above)
     where
       go : Moves m s (turnOf s h d) → Aside m (suc k) (turnOf s h d .next)
-      go (ends e x) = empty (ap (λ (t : Turn). t .next) x)
+      go (ends e x) = empty (next-of x)
       go (holds x l) = late x (omega arith)
 
 not-aside : {m : Message} {k : ℕ} {s : Station} (w : ℕ) → s ≡ holding m w w k → Aside m k s → ⊥
@@ -152,7 +152,7 @@ module _ (n : ℕ) (message : ℕ → Message) (draw : ℕ → ℕ) (slots : Lis
     count : ℕ
     stands : (i : ℕ) → i < n → Stands (message i) sent count (slot x i)
 
-  alike : (x : Moment) → State n message slots x → Alike x
+  alike : (x : Moment) → State n message x → Alike x
   alike x (quiet c Q) = record { sent = []; count = c; stands = Q .stations }
   alike x (busy z r sent R l F) = record { sent = sent; count = countedBy z sent; stands = R .stations }
 

@@ -28,7 +28,7 @@ use Rattle.station.specs.declared.Turn.{Turn}
 use Rattle.station.specs.declared.TurnAnswer.the-variants.{Done}
 use Rattle.station.specs.Stations.{emptyStation, drawOk, stationOk, isEmpty, sendsOf, turnOf, isDone}
 use Rattle.access.proofs.BurstLaws.{burst-some, burst-first, counted}
-use Rattle.access.proofs.Turns.{holding, goes, drawn, empty-turn, waiting-ok, sending-ok, waiting-sends, sending-sends, waiting-turn, ends-turn, sends-turn, yields-turn}
+use Rattle.access.proofs.Turns.{holding, goes, next-of, done-of, drawn, empty-turn, waiting-ok, sending-ok, waiting-sends, sending-sends, waiting-turn, ends-turn, sends-turn, yields-turn}
 
 -- the burst of m begins with what was sent
 abbrev pub Front : Message → List ℕ → Type 0
@@ -161,7 +161,7 @@ module _ (m : Message) (valid : messageOk m ≡ true) (sent : List ℕ) (z : ℕ
       drawn-wait = x .drawn-wait;
       begun = λ e. absurd (omega (arith, length-more sent h));
       follows = goes-further same p;
-      is = ap (λ (t : Turn). t .next) (sends-here same p);
+      is = next-of (sends-here same p);
     }
 
     carries-on : half ≡ h → Dec (length sent + 1 ≡ burstLength m) → After h d
@@ -197,33 +197,33 @@ module _ (m : Message) (valid : messageOk m ≡ true) (sent : List ℕ) (z : ℕ
 -- a station stands so again, and is newly vacant exactly where it said DONE
 pub record Settles (m : Message) (sent : List ℕ) (z : ℕ) (s : Station) (t : Turn) : Type 0 where
   pub stands : Stands m sent z (t .next)
-  pub fills : vacant (t .next) ≡ mark (isDone (t .answer)) + vacant s
+  pub empties : vacant (t .next) ≡ mark (isDone (t .answer)) + vacant s
 
 -- said nothing, and as vacant as before
 quietly : (s : Station) {s′ : Station} {t : Turn} → t ≡ goes s′ → vacant s ≡ vacant s′ → vacant (t .next) ≡ mark (isDone (t .answer)) + vacant s
 quietly s {s′} {t} e v =
-    let silent : mark (isDone (t .answer)) ≡ 0 = ap (λ (t : Turn). mark (isDone (t .answer))) e in
-    let same : vacant (t .next) ≡ vacant s′ = ap (λ (t : Turn). vacant (t .next)) e in
+    let silent : mark (isDone (t .answer)) ≡ 0 = ap mark (done-of e) in
+    let same : vacant (t .next) ≡ vacant s′ = ap vacant (next-of e) in
     omega arith
 
 settles-gone : {m : Message} {sent : List ℕ} {z : ℕ} {s : Station} {t : Turn} → s ≡ emptyStation → t ≡ goes emptyStation → Settles m sent z s t
-settles-gone {s = s} e p = record { stands = gone (ap (λ (t : Turn). t .next) p); fills = quietly s p (ap vacant e) }
+settles-gone {s = s} e p = record { stands = gone (next-of p); empties = quietly s p (ap vacant e) }
 
 settles-waiting : {m : Message} {sent : List ℕ} {z : ℕ} {s : Station} {t : Turn} (w : ℕ) → drawOk w ≡ true → z < w → vacant s ≡ 0
     → t ≡ goes (holding m w z 0) → Settles m sent z s t
-settles-waiting {s = s} w d l v p = record { stands = waiting w d l (ap (λ (t : Turn). t .next) p); fills = quietly s p v }
+settles-waiting {s = s} w d l v p = record { stands = waiting w d l (next-of p); empties = quietly s p v }
 
 -- the burst goes on: nothing is over
 pub keeps-sending : {m : Message} {sent : List ℕ} {z : ℕ} {s : Station} {t : Turn} → 0 < length sent → (burstOf m ≡ sent → ⊥) → Outcome m sent z s t
     → Settles m sent z s t × (isDone (t .answer) ≡ false)
-keeps-sending l n (still-gone e p) = (settles-gone e p, ap (λ (t : Turn). isDone (t .answer)) p)
-keeps-sending l n (waits-on w d b v p) = (settles-waiting w d b v p, ap (λ (t : Turn). isDone (t .answer)) p)
+keeps-sending l n (still-gone e p) = (settles-gone e p, done-of p)
+keeps-sending l n (waits-on w d b v p) = (settles-waiting w d b v p, done-of p)
 keeps-sending {s = s} l n (sends-on w d f v p) = (
   record {
-    stands = sends (record { wait = w; drawn-wait = d; begun = λ e. absurd (omega arith); follows = f; is = ap (λ (t : Turn). t .next) p });
-    fills = quietly s p v;
+    stands = sends (record { wait = w; drawn-wait = d; begun = λ e. absurd (omega arith); follows = f; is = next-of p });
+    empties = quietly s p v;
   },
-  ap (λ (t : Turn). isDone (t .answer)) p,
+  done-of p,
 )
 keeps-sending l n (ends e v p) = absurd (n e)
 
@@ -233,14 +233,14 @@ is-over n (still-gone e p) = settles-gone e p
 is-over n (waits-on w d b v p) = settles-waiting w d b v p
 is-over n (sends-on w d f v p) = absurd (n f)
 is-over {t = t} n (ends e v p) =
-    let empty : vacant (t .next) ≡ 1 = ap (λ (t : Turn). vacant (t .next)) p in
-    let done : mark (isDone (t .answer)) ≡ 1 = ap (λ (t : Turn). mark (isDone (t .answer))) p in
-    record { stands = gone (ap (λ (t : Turn). t .next) p); fills = omega arith }
+    let empty : vacant (t .next) ≡ 1 = ap vacant (next-of p) in
+    let done : mark (isDone (t .answer)) ≡ 1 = ap mark (done-of p) in
+    record { stands = gone (next-of p); empties = omega arith }
 
 pub done-whole : {m : Message} {sent : List ℕ} {z : ℕ} {s : Station} {t : Turn} → Outcome m sent z s t → isDone (t .answer) ≡ true → burstOf m ≡ sent
-done-whole (still-gone e p) d = absurd (false≢true (sym (ap (λ (t : Turn). isDone (t .answer)) p) ∙ d))
-done-whole (waits-on w h b v p) d = absurd (false≢true (sym (ap (λ (t : Turn). isDone (t .answer)) p) ∙ d))
-done-whole (sends-on w h f v p) d = absurd (false≢true (sym (ap (λ (t : Turn). isDone (t .answer)) p) ∙ d))
+done-whole (still-gone e p) d = absurd (false≢true (sym (done-of p) ∙ d))
+done-whole (waits-on w h b v p) d = absurd (false≢true (sym (done-of p) ∙ d))
+done-whole (sends-on w h f v p) d = absurd (false≢true (sym (done-of p) ∙ d))
 done-whole (ends e v p) d = e
 
 -- a clear half-cycle while none sends
@@ -251,8 +251,8 @@ module _ (m : Message) (valid : messageOk m ≡ true) (c d : ℕ) (hd : drawOk d
   pub counts-on : (s : Station) → sendsOf s ≤ 0 → Stands m [] c s → Settles m [] (c + 1) s (turnOf s 0 d) × (isDone (turnOf s 0 d .answer) ≡ false)
   counts-on s u (gone e) =
       let p = ap (λ (s : Station). turnOf s 0 d) e ∙ empty-turn 0 d (omega arith) hd in
-      (settles-gone e p, ap (λ (t : Turn). isDone (t .answer)) p)
-  counts-on s u (waiting w hw l e) = (counted-on (ℕ-discrete (c + 1) w), ap (λ (t : Turn). isDone (t .answer)) p)
+      (settles-gone e p, done-of p)
+  counts-on s u (waiting w hw l e) = (counted-on (ℕ-discrete (c + 1) w), done-of p)
     where
       p : turnOf s 0 d ≡ goes (holding m w (c + 1) 0)
       p = ap (λ (s : Station). turnOf s 0 d) e ∙ waiting-turn m w valid hw 0 d (omega arith) hd c l
@@ -265,8 +265,8 @@ module _ (m : Message) (valid : messageOk m ≡ true) (c d : ℕ) (hd : drawOk d
           drawn-wait = hw;
           begun = λ x. sym q;
           follows = begins;
-          is = ap (λ (t : Turn). t .next) p ∙ ap (λ (c : ℕ). holding m w c 0) q;
+          is = next-of p ∙ ap (λ (c : ℕ). holding m w c 0) q;
         });
-        fills = quietly s p (ap vacant e);
+        empties = quietly s p (ap vacant e);
       }
   counts-on s u (sends x) = absurd (omega (arith, sending-half m valid [] c s x ∙ burst-first m))

@@ -25,7 +25,7 @@ use Rattle.station.specs.declared.Station.{Station}
 use Rattle.station.specs.declared.LoadAnswer.the-variants as load
 use Rattle.station.specs.declared.TurnAnswer.the-variants.{Going, Done}
 use Rattle.station.specs.declared.Turn.{Turn}
-use Rattle.station.specs.Stations.{emptyStation, loadNumber, drawOk, stationOk, loaded, loadOf, sendsOf, waits, sendsOn, sending, heldMoves, turnOf}
+use Rattle.station.specs.Stations.{emptyStation, loadNumber, drawOk, stationOk, loaded, loadOf, sendsOf, waits, sendsOn, sending, heldMoves, turnOf, isDone}
 use Rattle.access.proofs.BurstLaws.{burst-some}
 
 abbrev pub holding : Message → ℕ → ℕ → ℕ → Station
@@ -33,6 +33,13 @@ holding m w c p = record { held = Holds m; wait = w; count = c; place = p }
 
 abbrev pub goes : Station → Turn
 goes s = record { answer = Going; next = s }
+
+-- what equal turns leave and mark
+pub next-of : {t t′ : Turn} → t ≡ t′ → t .next ≡ t′ .next
+next-of e = ap (λ (t : Turn). t .next) e
+
+pub done-of : {t t′ : Turn} → t ≡ t′ → isDone (t .answer) ≡ isDone (t′ .answer)
+done-of e = ap (λ (t : Turn). isDone (t .answer)) e
 
 pub drawn : (d : ℕ) → drawOk d ≡ true → (8 ≤ d) × (d ≤ 10)
 drawn d e =

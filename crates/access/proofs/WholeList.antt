@@ -24,7 +24,8 @@ use Rattle.access.proofs.Turns.{drawn, Accepted, accepted}
 use Rattle.access.proofs.StationStates.{Stands, gone, waiting, sends, stands-ok, mark, vacant}
 use Rattle.access.proofs.BenchLaws.{Turns, bench-number, bench-refuses, bench-turns}
 use Rattle.access.proofs.Tally.{total, total-short}
-use Rattle.access.proofs.Moments.{slot, Bench, Kept, State, quiet, busy, next-state}
+use Rattle.access.proofs.Moments.{slot, Bench, Kept, State, quiet, busy}
+use Rattle.access.proofs.Races.{next-state}
 
 -- a call is refused and changes nothing, or turns every station
 pub data Called (n : ℕ) (now : Moment) (draws : List ℕ) : Type 0 where
@@ -45,7 +46,7 @@ module _ (n : ℕ) (message : ℕ → Message) (draw : ℕ → ℕ) (slots : Lis
 
   pub record Reached (now : Moment) : Type 0 where
     pub kept : Kept n message slots now
-    pub state : State n message slots now
+    pub state : State n message now
 
   pub at-start : Reached (atStart slots)
   at-start = record {
@@ -59,7 +60,7 @@ module _ (n : ℕ) (message : ℕ → Message) (draw : ℕ → ℕ) (slots : Lis
   }
 
   -- each station is in a state of 01
-  all-ok : (now : Moment) → State n message slots now → (i : ℕ) → i < n → stationOk (slot now i) ≡ true
+  all-ok : (now : Moment) → State n message now → (i : ℕ) → i < n → stationOk (slot now i) ≡ true
   all-ok now (quiet c Q) i l = stands-ok (message i) (bench .valid i l) [] c (slot now i) (Q .stations i l)
   all-ok now (busy z r sent R k F) i l = stands-ok (message i) (bench .valid i l) sent (countedBy z sent) (slot now i) (R .stations i l)
 
@@ -83,7 +84,7 @@ module _ (n : ℕ) (message : ℕ → Message) (draw : ℕ → ℕ) (slots : Lis
 
     pub then-reached : (draws : List ℕ) (h : ℕ) (t : BenchTurn) → Turns n (now .slots) draws h t → Reached (hears now t (Line h))
     then-reached draws h t T =
-        let x = next-state n message slots bench now draws t (H .kept) (H .state) h T in
+        let x = next-state n message bench slots now draws t (H .kept) (H .state) h T in
         record { kept = x .0; state = x .1 }
 
   pub reached : (now : Moment) → Reached now → (calls : List (List ℕ)) → Drawn n calls → Reached (run n now calls)
@@ -113,10 +114,10 @@ module _ (n : ℕ) (message : ℕ → Message) (draw : ℕ → ℕ) (slots : Lis
     count-low c i v (sends x) = omega (arith, x .begun refl, drawn (x .wait) (x .drawn-wait))
 
     -- while one station is not done, the calls are fewer
-    not-yet : (i : ℕ) → i < n → vacant (slot now i) ≡ 0 → State n message slots now → length (now .past) < callsEach * n
+    not-yet : (i : ℕ) → i < n → vacant (slot now i) ≡ 0 → State n message now → length (now .past) < callsEach * n
     not-yet i l v s = go s (total-short n (now .past) once i l (H .kept .tally i l ∙ v))
       where
-        go : State n message slots now → total n (now .past) < n → length (now .past) < callsEach * n
+        go : State n message now → total n (now .past) < n → length (now .past) < callsEach * n
         go (quiet c Q) k = omega (arith, Q .bound i l v, count-low c i v (Q .stations i l))
         go (busy z r sent R j F) k = omega (arith, R .bound, F .sends .follows .more, burst-most (message (F .who)))
 
