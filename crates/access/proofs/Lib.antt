@@ -8,4 +8,5 @@ pub mod Moments
 pub mod Races
 pub mod WholeList
 pub mod Compare
+pub mod Tracks
 pub mod StartTogether

@@ -2,8 +2,10 @@
 --
 --     Bench, Kept              what holds at every moment: the messages; the slots, the marks, the answers
 --     Quiet, Race, Sender, State     none sends; a burst is on the line; some station sends; the one or the other
+--     Alike, alike, all-ok, line-half     what both say of the stations, and of the line
 --     keeps, going-right       what a call keeps, and its answer where none is DONE
 --     quiet-call               a call while none sends
+use mathlib.Core.Logic.{_⊎_, inl, inr}
 use mathlib.Core.Path.{_≡_, sym, ap, subst, _∙_}
 use mathlib.Core.Bool.{true, false, false≢true}
 use mathlib.Core.List.{List, [], reverseAux}
@@ -18,7 +20,7 @@ use Rattle.receiver.specs.Hearing.{eventsOf, receiverAfter}
 use Rattle.receiver.specs.declared.Heard.{Heard}
 use Rattle.receiver.specs.declared.Receiver.{Receiver}
 use Rattle.receiver.specs.declared.Event.the-variants.{Nothing, Message as Gives, Repeat}
-use Rattle.station.specs.Stations.{emptyStation, isDone}
+use Rattle.station.specs.Stations.{emptyStation, stationOk, sendsOf, isDone}
 use Rattle.station.specs.declared.Station.{Station}
 use Rattle.bench.specs.declared.BenchAnswer.the-variants.{Line}
 use Rattle.bench.specs.declared.BenchTurn.{BenchTurn}
@@ -28,7 +30,7 @@ use Rattle.access.specs.Calls.{Answer, Moment, linesOf, eventsIn, hears}
 use Rattle.access.specs.Demand3.{callsEach, timesDone, Right, AllRight}
 use Rattle.access.proofs.BurstLaws.{countedBy}
 use Rattle.access.proofs.BenchLaws.{turnAt, Turns}
-use Rattle.access.proofs.StationStates.{Sending, Stands, mark, vacant, Settles, counts-on}
+use Rattle.access.proofs.StationStates.{Sending, Stands, stands-ok, sends-half, mark, vacant, Settles, counts-on}
 use Rattle.access.proofs.Tally.{total, total-grows}
 
 abbrev pub slot : Moment → ℕ → Station
@@ -79,6 +81,27 @@ module _ (n : ℕ) (message : ℕ → Message) where
   pub data State (now : Moment) : Type 0 where
     quiet : (c : ℕ) → Quiet c now → State now
     busy : (z : ℕ) (r : Receiver) (sent : List ℕ) → Race z r sent now → 0 < length sent → Sender (countedBy z sent) sent now → State now
+
+  -- either way all stations stand by one list of half-cycles and one count
+  pub record Alike (now : Moment) : Type 0 where
+    pub sent : List ℕ
+    pub count : ℕ
+    pub stands : (i : ℕ) → i < n → Stands (message i) sent count (slot now i)
+
+  pub alike : (now : Moment) → State now → Alike now
+  alike now (quiet c Q) = record { sent = []; count = c; stands = Q .stations }
+  alike now (busy z r sent R l F) = record { sent = sent; count = countedBy z sent; stands = R .stations }
+
+  module _ (B : Bench) (now : Moment) (A : Alike now) where
+    pub all-ok : (i : ℕ) → i < n → stationOk (slot now i) ≡ true
+    all-ok i l = stands-ok (message i) (B .valid i l) (A .sent) (A .count) (slot now i) (A .stands i l)
+
+    pub line-half : (draws : List ℕ) (h : ℕ) (t : BenchTurn) → Turns n (now .slots) draws h t → h ≤ 1
+    line-half draws h t T = go (T .some)
+      where
+        go : (h ≡ 0) ⊎ ((i : ℕ) × (i < n) × (sendsOf (slot now i) ≡ h)) → h ≤ 1
+        go (inl e) = omega arith
+        go (inr (i, l, e)) = omega (arith, sends-half (message i) (B .valid i l) (A .sent) (A .count) (slot now i) (A .stands i l))
 
   module _ (start : List Station) (now : Moment) (draws : List ℕ) (h : ℕ) (t : BenchTurn) (T : Turns n (now .slots) draws h t) where
     pub keeps : Kept start now

@@ -34,7 +34,7 @@ use Rattle.access.specs.Demand3.{SaysDone, SentAndHeard}
 use Rattle.access.proofs.BurstLaws.{burst-most, counted, countedBy, counted-append, clear-briefly}
 use Rattle.access.proofs.BenchLaws.{turnAt, Turns}
 use Rattle.access.proofs.Turns.{done-of, drawn}
-use Rattle.access.proofs.StationStates.{Front, Follows, front-more, front-less, whole, Sending, Stands, sending-half, sends-half, who-sends, vacant, Outcome, outcome, ends-here, sends-still, Settles, keeps-sending, is-over, done-whole}
+use Rattle.access.proofs.StationStates.{Front, Follows, front-more, front-less, whole, Sending, Stands, sending-half, who-sends, vacant, Outcome, outcome, ends-here, sends-still, Settles, keeps-sending, is-over, done-whole}
 use Rattle.access.proofs.PartHeard.{end-repeats, gives-this, says-cleanly, part-next, part-events, part-event, sent-and-heard}
 use Rattle.access.proofs.Tally.{total-grows, total-rises}
 use Rattle.access.proofs.Moments.{slot, newest, Bench, Kept, Quiet, Race, Sender, State, quiet, busy, keeps, going-right, quiet-call}
@@ -227,15 +227,14 @@ module _ (n : ℕ) (message : ℕ → Message) (B : Bench n message) (start : Li
             (q .0, busy z r (sent ++ h ∷ []) (q .1) (omega (arith, length-append sent (h ∷ []))) (q .2))
 
     -- a 1 on the line is sent by some station
-    race-one : (h : ℕ) → Turns n (now .slots) draws (suc h) t → (z : ℕ) (r : Receiver) (sent : List ℕ) → Race n message z r sent now → Next (suc h)
-    race-one h T z r sent R = go (T .some)
+    race-one : (h : ℕ) → suc h ≤ 1 → Turns n (now .slots) draws (suc h) t → (z : ℕ) (r : Receiver) (sent : List ℕ) → Race n message z r sent now → Next (suc h)
+    race-one h low T z r sent R = go (T .some)
       where
         go : (suc h ≡ 0) ⊎ ((i : ℕ) × (i < n) × (sendsOf (slot now i) ≡ suc h)) → Next (suc h)
         go (inl e) = absurd (omega arith)
         go (inr (i, l, e)) =
-            let low = sends-half (message i) (B .valid i l) sent (countedBy z sent) (slot now i) (R .stations i l) in
             let x = who-sends (message i) (B .valid i l) sent (countedBy z sent) (slot now i) (R .stations i l) (omega arith) in
-            race-next (suc h) (omega arith) T z r sent R (record { who = i; below = l; sends = x })
+            race-next (suc h) low T z r sent R (record { who = i; below = l; sends = x })
             (sym (sending-half (message i) (B .valid i l) sent (countedBy z sent) (slot now i) x) ∙ e)
 
     -- a quiet line on which a burst begins
@@ -254,19 +253,19 @@ module _ (n : ℕ) (message : ℕ → Message) (B : Bench n message) (start : Li
           bound = omega (arith, Q .bound i l (ap vacant (x .is)));
         }
 
-    quiet-next : (c : ℕ) → Quiet n message c now → (h : ℕ) → Turns n (now .slots) draws h t → Next h
-    quiet-next c Q zero T = let q = quiet-call n message B start now draws t T c Q K in (q .0, quiet (c + 1) (q .1))
-    quiet-next c Q (suc h) T = go (T .some)
+    quiet-next : (c : ℕ) → Quiet n message c now → (h : ℕ) → h ≤ 1 → Turns n (now .slots) draws h t → Next h
+    quiet-next c Q zero low T = let q = quiet-call n message B start now draws t T c Q K in (q .0, quiet (c + 1) (q .1))
+    quiet-next c Q (suc h) low T = go (T .some)
       where
         go : (suc h ≡ 0) ⊎ ((i : ℕ) × (i < n) × (sendsOf (slot now i) ≡ suc h)) → Next (suc h)
         go (inl e) = absurd (omega arith)
         go (inr (i, l, e)) =
             let x = who-sends (message i) (B .valid i l) [] c (slot now i) (Q .stations i l) (omega arith) in
-            race-one h T c (now .receiver) [] (begins c Q i l x)
+            race-one h low T c (now .receiver) [] (begins c Q i l x)
 
-    pub next-state : State n message now → (h : ℕ) → Turns n (now .slots) draws h t → Next h
-    next-state (quiet c Q) h T = quiet-next c Q h T
-    next-state (busy z r sent R l F) zero T =
+    pub next-state : State n message now → (h : ℕ) → h ≤ 1 → Turns n (now .slots) draws h t → Next h
+    next-state (quiet c Q) h low T = quiet-next c Q h low T
+    next-state (busy z r sent R l F) zero low T =
         let sends = sending-half (message (F .who)) (B .valid (F .who) (F .below)) sent (countedBy z sent) (slot now (F .who)) (F .sends) in
-        race-next 0 (omega arith) T z r sent R F (omega (arith, T .above (F .who) (F .below)))
-    next-state (busy z r sent R l F) (suc h) T = race-one h T z r sent R
+        race-next 0 low T z r sent R F (omega (arith, T .above (F .who) (F .below)))
+    next-state (busy z r sent R l F) (suc h) low T = race-one h low T z r sent R

@@ -1,7 +1,7 @@
 -- Demand 3 for every list of calls: what holds at the start is kept by each call, and says what is claimed.
 --
 --     Reached, at-start, reached     what holds at the start and after any list of calls
---     Called, called, then-reached   one call
+--     Called, called                 one call
 --     demand-3                       the theorem of specs/Demand3.antt
 use mathlib.Core.Path.{_≡_, refl, sym, ap, subst, _∙_}
 use mathlib.Core.Bool.{Bool, true, false}
@@ -19,18 +19,18 @@ use Rattle.bench.specs.declared.BenchTurn.{BenchTurn}
 use Rattle.hearing.proofs.Rests.{rests-fresh}
 use Rattle.access.specs.Calls.{Moment, atStart, hears, call, run, Drawn}
 use Rattle.access.specs.Demand3.{callsEach, Start, timesDone, Claim, Demand3}
-use Rattle.access.proofs.BurstLaws.{burst-most, countedBy}
+use Rattle.access.proofs.BurstLaws.{burst-most}
 use Rattle.access.proofs.Turns.{drawn, Accepted, accepted}
-use Rattle.access.proofs.StationStates.{Stands, gone, waiting, sends, stands-ok, mark, vacant}
+use Rattle.access.proofs.StationStates.{Stands, gone, waiting, sends, mark, vacant}
 use Rattle.access.proofs.BenchLaws.{Turns, bench-number, bench-refuses, bench-turns}
 use Rattle.access.proofs.Tally.{total, total-short}
-use Rattle.access.proofs.Moments.{slot, Bench, Kept, State, quiet, busy}
+use Rattle.access.proofs.Moments.{slot, Bench, Kept, State, quiet, busy, alike, all-ok, line-half}
 use Rattle.access.proofs.Races.{next-state}
 
 -- a call is refused and changes nothing, or turns every station
 pub data Called (n : ℕ) (now : Moment) (draws : List ℕ) : Type 0 where
   refused : call n now draws ≡ now → Called n now draws
-  taken : (h : ℕ) (t : BenchTurn) → Turns n (now .slots) draws h t → call n now draws ≡ hears now t (Line h) → Called n now draws
+  taken : (h : ℕ) (t : BenchTurn) → h ≤ 1 → Turns n (now .slots) draws h t → call n now draws ≡ hears now t (Line h) → Called n now draws
 
 module _ (n : ℕ) (message : ℕ → Message) (draw : ℕ → ℕ) (slots : List Station) (S : Start n message draw slots) where
   loading : (i : ℕ) → i < n → Accepted (message i) (draw i)
@@ -59,18 +59,16 @@ module _ (n : ℕ) (message : ℕ → Message) (draw : ℕ → ℕ) (slots : Lis
     state = quiet 0 (record { heard = 0; rests = rests-fresh; near = omega arith; stations = at-first; bound = λ i l v. omega arith });
   }
 
-  -- each station is in a state of 01
-  all-ok : (now : Moment) → State n message now → (i : ℕ) → i < n → stationOk (slot now i) ≡ true
-  all-ok now (quiet c Q) i l = stands-ok (message i) (bench .valid i l) [] c (slot now i) (Q .stations i l)
-  all-ok now (busy z r sent R k F) i l = stands-ok (message i) (bench .valid i l) sent (countedBy z sent) (slot now i) (R .stations i l)
-
   module _ (now : Moment) (H : Reached now) where
+    ok : (i : ℕ) → i < n → stationOk (slot now i) ≡ true
+    ok = all-ok n message bench now (alike n message now (H .state))
+
     -- a refused call changes nothing
     stays : (draws : List ℕ) → drawsOk (take n draws) ≡ false → call n now draws ≡ now
     unfolding call
     stays draws e =
         ap (λ (t : BenchTurn). hears now t (t .answer))
-        (bench-refuses n (now .slots) draws (S .some) (S .most) (H .kept .room) (all-ok now (H .state)) e)
+        (bench-refuses n (now .slots) draws (S .some) (S .most) (H .kept .room) ok e)
 
     pub called : (draws : List ℕ) → n ≤ length draws → Called n now draws
     unfolding call
@@ -79,12 +77,13 @@ module _ (n : ℕ) (message : ℕ → Message) (draw : ℕ → ℕ) (slots : Lis
         go : (b : Bool) → drawsOk (take n draws) ≡ b → Called n now draws
         go false e = refused (stays draws e)
         go true e =
-            let t = bench-turns n (now .slots) draws (S .some) (S .most) (H .kept .room) (all-ok now (H .state)) enough e in
-            taken (t .0) (benchOf n (now .slots) draws) (t .1) (ap (hears now (benchOf n (now .slots) draws)) (t .1 .answers))
+            let t = bench-turns n (now .slots) draws (S .some) (S .most) (H .kept .room) ok enough e in
+            let low = line-half n message bench now (alike n message now (H .state)) draws (t .0) (benchOf n (now .slots) draws) (t .1) in
+            taken (t .0) (benchOf n (now .slots) draws) low (t .1) (ap (hears now (benchOf n (now .slots) draws)) (t .1 .answers))
 
-    pub then-reached : (draws : List ℕ) (h : ℕ) (t : BenchTurn) → Turns n (now .slots) draws h t → Reached (hears now t (Line h))
-    then-reached draws h t T =
-        let x = next-state n message bench slots now draws t (H .kept) (H .state) h T in
+    then-reached : (draws : List ℕ) (h : ℕ) (t : BenchTurn) → h ≤ 1 → Turns n (now .slots) draws h t → Reached (hears now t (Line h))
+    then-reached draws h t low T =
+        let x = next-state n message bench slots now draws t (H .kept) (H .state) h low T in
         record { kept = x .0; state = x .1 }
 
   pub reached : (now : Moment) → Reached now → (calls : List (List ℕ)) → Drawn n calls → Reached (run n now calls)
@@ -94,7 +93,7 @@ module _ (n : ℕ) (message : ℕ → Message) (draw : ℕ → ℕ) (slots : Lis
     where
       go : Reached (run n now calls) → Called n (run n now calls) draws → Reached (call n (run n now calls) draws)
       go G (refused e) = subst Reached (sym e) G
-      go G (taken h t T e) = subst Reached (sym e) (then-reached (run n now calls) G draws h t T)
+      go G (taken h t low T e) = subst Reached (sym e) (then-reached (run n now calls) G draws h t low T)
 
   -- ---- what is claimed
 
@@ -130,7 +129,7 @@ module _ (n : ℕ) (message : ℕ → Message) (draw : ℕ → ℕ) (slots : Lis
 
     claim : Claim n message slots now
     claim = record {
-      refused = λ draws. bench-number n (now .slots) draws (S .some) (S .most) (H .kept .room) (all-ok now (H .state));
+      refused = λ draws. bench-number n (now .slots) draws (S .some) (S .most) (H .kept .room) (ok now H);
       unchanged = stays now H;
       within = λ many i l. omega (arith, all-done many i l);
       once = λ i l. omega (arith, once i l);
