@@ -1,7 +1,7 @@
 -- Laws of the bench, station by station: what one call leaves in a slot and marks DONE, and what the line says of those that send.
 --
 --     ok-all, ok-each              the n stations, or draws, are right as each of them is
---     length-moved, moved, marked  each station after the line's half-cycle, and its mark
+--     turnAt, lengths, turned      each station after the line's half-cycle, and its mark
 --     line-above, line-some        the line is no less than what a station sends; it is 0, or what some station sends
 --     Turns, bench-turns           a call that is not refused, as these say
 --     bench-number, bench-refuses  a call that its draws refuse
@@ -43,33 +43,19 @@ module _ (line : ℕ) where
   abbrev pub turnAt : List Station → List ℕ → ℕ → Turn
   turnAt ss ds i = turnOf (getD ss i emptyStation) line (getD ds i 0)
 
-  length-moved : (ss : List Station) (ds : List ℕ) → length (moveAll line ss ds) ≡ length ss
-  unfolding moveAll
-  length-moved [] ds = refl
-  length-moved (s ∷ ss) [] = refl
-  length-moved (s ∷ ss) (d ∷ ds) = ap suc (length-moved ss ds)
+  lengths : (ss : List Station) (ds : List ℕ) → (length (moveAll line ss ds) ≡ length ss) × (length (doneAll line ss ds) ≡ length ss)
+  unfolding moveAll doneAll
+  lengths [] ds = (refl, refl)
+  lengths (s ∷ ss) [] = (refl, ap suc (lengths ss [] .1))
+  lengths (s ∷ ss) (d ∷ ds) = let e = lengths ss ds in (ap suc (e .0), ap suc (e .1))
 
-  length-marked : (ss : List Station) (ds : List ℕ) → length (doneAll line ss ds) ≡ length ss
-  unfolding doneAll
-  length-marked [] ds = refl
-  length-marked (s ∷ ss) [] = ap suc (length-marked ss [])
-  length-marked (s ∷ ss) (d ∷ ds) = ap suc (length-marked ss ds)
-
-  moved : (ss : List Station) (ds : List ℕ) (i : ℕ) → i < length ss → i < length ds
-      → getD (moveAll line ss ds) i emptyStation ≡ turnAt ss ds i .next
-  unfolding moveAll
-  moved [] ds i h k = absurd (not-suc-le-zero h)
-  moved (s ∷ ss) [] i h k = absurd (not-suc-le-zero k)
-  moved (s ∷ ss) (d ∷ ds) zero h k = refl
-  moved (s ∷ ss) (d ∷ ds) (suc i) h k = moved ss ds i (le-of-suc-le-suc h) (le-of-suc-le-suc k)
-
-  marked : (ss : List Station) (ds : List ℕ) (i : ℕ) → i < length ss → i < length ds
-      → getD (doneAll line ss ds) i false ≡ isDone (turnAt ss ds i .answer)
-  unfolding doneAll
-  marked [] ds i h k = absurd (not-suc-le-zero h)
-  marked (s ∷ ss) [] i h k = absurd (not-suc-le-zero k)
-  marked (s ∷ ss) (d ∷ ds) zero h k = refl
-  marked (s ∷ ss) (d ∷ ds) (suc i) h k = marked ss ds i (le-of-suc-le-suc h) (le-of-suc-le-suc k)
+  turned : (ss : List Station) (ds : List ℕ) (i : ℕ) → i < length ss → i < length ds
+      → (getD (moveAll line ss ds) i emptyStation ≡ turnAt ss ds i .next) × (getD (doneAll line ss ds) i false ≡ isDone (turnAt ss ds i .answer))
+  unfolding moveAll doneAll
+  turned [] ds i h k = absurd (not-suc-le-zero h)
+  turned (s ∷ ss) [] i h k = absurd (not-suc-le-zero k)
+  turned (s ∷ ss) (d ∷ ds) zero h k = (refl, refl)
+  turned (s ∷ ss) (d ∷ ds) (suc i) h k = turned ss ds i (le-of-suc-le-suc h) (le-of-suc-le-suc k)
 
 -- ---- the line
 
@@ -153,19 +139,19 @@ module _ (n : ℕ) (slots : List Station) (draws : List ℕ) (low : 1 ≤ n) (hi
     all-turn =
         let moves : List Station = moveAll line (take n slots) (take n draws) in
         let marks : List Bool = doneAll line (take n slots) (take n draws) in
-        let many : length moves ≡ length (take n slots) = length-moved line (take n slots) (take n draws) in
-        let each : length marks ≡ length (take n slots) = length-marked line (take n slots) (take n draws) in
+        let many : length moves ≡ length (take n slots) = lengths line (take n slots) (take n draws) .0 in
+        let each : length marks ≡ length (take n slots) = lengths line (take n slots) (take n draws) .1 in
         record {
           answers = refl;
           same = length-front slots moves n many;
           beyond = drop-at moves (drop n slots) n (many ∙ count);
           next = λ i h.
               List·getD-append moves (drop n slots) emptyStation i (omega (arith, many, count))
-              ∙ moved line (take n slots) (take n draws) i (omega (arith, count)) (omega (arith, drawn))
+              ∙ turned line (take n slots) (take n draws) i (omega (arith, count)) (omega (arith, drawn)) .0
               ∙ ap (λ (t : Turn). t .next) (taken-turn i h);
           says = λ i h.
               List·getD-append marks (replicate (length slots - n) false) false i (omega (arith, each, count))
-              ∙ marked line (take n slots) (take n draws) i (omega (arith, count)) (omega (arith, drawn))
+              ∙ turned line (take n slots) (take n draws) i (omega (arith, count)) (omega (arith, drawn)) .1
               ∙ ap (λ (t : Turn). isDone (t .answer)) (taken-turn i h);
           draw = λ i h. rw (getD-take n draws i 0 h) at (ok-each (take n draws) fine i (omega (arith, drawn)));
           above = λ i h. rw (getD-take n slots i emptyStation h) at (line-above (take n slots) i (omega (arith, count)));
