@@ -10,3 +10,4 @@ pub mod WholeList
 pub mod Compare
 pub mod Tracks
 pub mod StartTogether
+pub mod BoundReached
