@@ -62,7 +62,8 @@ module _ (m : Message) (F : Framed m) (g : Given) (ok : givenOk g ≡ true) wher
         → stepOf (reading m g i (a + 1) (shifted p x)) (1 - x) ≡ pairOf (reading m g i (a + 1) (shifted p x)) (wordOf m / 2 ^ i) (paired p x)
     second-half e =
         let same : (p % 32 * 2 + x) % 2 ≡ wordOf m / 2 ^ i % 2 = omega arith in
-        step-second g (shifted p x) (a + 1) (wordOf m / 2 ^ suc i) (1 - x) (valid (a + 1) (shifted p x) (omega arith)) (omega arith) (omega arith) (omega arith) (omega arith)
+        step-second g (shifted p x) (a + 1) (wordOf m / 2 ^ suc i) (1 - x)
+        (valid (a + 1) (shifted p x) (omega arith)) (omega arith) (omega arith) (omega arith) (omega arith)
         ∙ ap (λ (b : ℕ). pairOf (reading m g i (a + 1) (shifted p x)) b (paired p x))
         (ap (λ (y : ℕ). wordOf m / 2 ^ suc i % 268435456 * 2 + y) same ∙ one-more-bit (wordOf m) i (F .small))
 

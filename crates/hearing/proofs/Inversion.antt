@@ -8,7 +8,7 @@
 --     tells-last, tells-rest     what is left after an inversion in the second copy, in the first
 --     Opens, loses-frame         an inversion in a copy's frame
 --     one-inversion              the theorem of specs/Inversion.antt
-use Prim.Native.Nat.{ℕ, zero, suc, _+_, _-_, _*_, _/_, _%_, _^_, _≤_, _<_, suc-le-suc}
+use Prim.Native.Nat.{ℕ, zero, suc, _+_, _-_, _%_, _≤_, _<_, suc-le-suc}
 use mathlib.Core.Logic.{_≢_, _⊎_, inl, inr, ⊎-elim}
 use mathlib.Core.Path.{_≡_, refl, ap, ap₂, subst⁻¹, _∙_}
 use mathlib.Core.Bool.{true}

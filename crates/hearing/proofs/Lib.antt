@@ -3,9 +3,9 @@ pub mod Steps
 pub mod FrameBits
 pub mod Pasts
 pub mod FrameHeard
+pub mod Hush
 pub mod Rests
 pub mod Whole
 pub mod Standing
-pub mod Hush
 pub mod Told
 pub mod Inversion

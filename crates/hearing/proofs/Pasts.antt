@@ -7,7 +7,7 @@
 --     Clean, clean-pair, clean-pairs, clean-start, clean-frame, clean-burst     after a pair that followed a pair or a start
 use Prim.Native.Nat.{ℕ, zero, suc, _+_, _-_, _*_, _%_, _≤_}
 use mathlib.Core.Logic.{_≢_}
-use mathlib.Core.Path.{_≡_, refl, _∙_}
+use mathlib.Core.Path.{_≡_, refl}
 use mathlib.Core.List.{List, [], _∷_, _++_}
 use native.Mathlib.Omega.{arith}
 use Rattle.message.specs.Words.{wordOf, bitCount}

@@ -3,7 +3,7 @@
 --     Rests, rests-fresh, ready-rests, rests-hunting     has heard c clear half-cycles in a row
 --     rests-step, rests-next                             one more
 --     rests-ready                                        three are enough
-use Prim.Native.Nat.{ℕ, suc, _*_, _%_, _≤_}
+use Prim.Native.Nat.{ℕ, suc, _%_, _≤_}
 use mathlib.Core.Logic.{_≢_}
 use mathlib.Core.Path.{_≡_, refl}
 use mathlib.Core.Bool.{true}
@@ -23,7 +23,7 @@ pub record Rests (c : ℕ) (r : Receiver) : Type 0 where
   pub two : 2 ≤ c → r .past % 4 ≡ 0
   pub three : 3 ≤ c → r .past % 8 ≡ 0
 
--- any number of clear half-cycles may come after this one
+-- one of which no clear half-cycle is known
 pub rests-hunting : (p : ℕ) → p ≤ 63 → p ≢ 7 → Rests 0 (hunting p)
 rests-hunting p hp n = record {
   valid = hunting-ok p hp;

@@ -1,6 +1,8 @@
 -- Runs: what a receiver says over a list of half-cycles and where it then stands, put together from single steps.
 --
---     run-none, run-one, run-more, run-append     no half-cycle, one, one more in front, two lists
+--     Run                               a receiver hears a list, says a list of events and stands somewhere
+--     run-none, run-more, run-append    no half-cycle, one more in front, two lists
+--     events-append, after-append       the same of the definitions themselves
 use mathlib.Core.Path.{_≡_, refl, ap, ap₂, _∙_}
 use mathlib.Core.List.{List, [], _∷_, _++_}
 use Prim.Native.Nat.{ℕ}
@@ -10,7 +12,6 @@ use Rattle.receiver.specs.declared.Receiver.{Receiver}
 use Rattle.receiver.specs.declared.Event.{Event}
 use Rattle.receiver.specs.declared.Heard.{Heard}
 
--- the receiver r hears hs, says es and then stands at s
 pub record Run (r : Receiver) (hs : List ℕ) (es : List Event) (s : Receiver) : Type 0 where
   pub events : eventsOf r hs ≡ es
   pub stands : receiverAfter r hs ≡ s

@@ -9,22 +9,22 @@
 --     repeat-ends        REPEAT is said at the burst's end only
 use Prim.Native.Nat.{ℕ, zero, suc, _+_, _-_, _≤_, _<_}
 use mathlib.Core.Logic.{_≢_}
-use mathlib.Core.Path.{_≡_, refl, sym, ap, subst, _∙_}
+use mathlib.Core.Path.{_≡_, refl, ap, _∙_}
 use mathlib.Core.Bool.{Bool, true, false}
 use mathlib.Core.List.{List, [], _∷_, _++_}
 use native.Mathlib.Nat.{le-of-suc-le-suc, not-suc-le-zero}
 use native.Mathlib.Decide.{ℕ-discrete}
 use native.Mathlib.Omega.{arith}
 use borrow.Author.Tests.{eq-eqb, ne-eqb}
-use lib.Dec.{eqb, lit≤}
+use lib.Dec.{eqb}
 use lib.ListN.{length, getD, take, replicate}
 use lib.Seq.{append-snoc, take-length}
 use Rattle.message.specs.Choice.{pick}
 use Rattle.message.specs.Messages.{messageOk, BytesOk}
 use Rattle.message.specs.declared.Message.{Message}
 use Rattle.message.specs.declared.Message.the-variants.{Address, Function as Command, Extended}
-use Rattle.burst.specs.Frames.{frameOf, frameLength, burstOf, burstLength}
-use Rattle.receiver.specs.Receivers.{stepOf, says, hunting}
+use Rattle.burst.specs.Frames.{frameLength, burstOf, burstLength}
+use Rattle.receiver.specs.Receivers.{stepOf, says}
 use Rattle.receiver.specs.Hearing.{eventsOf, receiverAfter}
 use Rattle.receiver.specs.declared.Receiver.{Receiver}
 use Rattle.receiver.specs.declared.Event.{Event}
@@ -110,7 +110,8 @@ module _ (m : Message) (ok : messageOk m ≡ true) (bytes : BytesOk m) (r : Rece
   unfolding standsAt
   stands-step k l =
       step-at (burstOf m) r k l
-      ∙ ap (λ (e : Event). says e (receiverAfter r (take (suc k) (burstOf m)))) (ap (λ (es : List Event). getD es k Nothing) (hears-burst m ok bytes r h .events) ∙ said m k)
+      ∙ ap (λ (e : Event). says e (receiverAfter r (take (suc k) (burstOf m))))
+      (ap (λ (es : List Event). getD es k Nothing) (hears-burst m ok bytes r h .events) ∙ said m k)
 
   pub stands-last : Rests 0 (standsAt m r (length (burstOf m)))
   unfolding standsAt

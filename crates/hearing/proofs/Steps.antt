@@ -5,7 +5,7 @@
 --     hunts-on, hunts-start                    hunting, without a start and with one
 --     step-wanted, step-unwanted               awaiting: the half-cycle that must come, and another
 --     step-first, step-second, step-equal      in the pairs: a pair's first half-cycle, and its second, different or equal
-use Prim.Native.Nat.{ℕ, _+_, _*_, _%_, _≤_, _<_}
+use Prim.Native.Nat.{ℕ, _+_, _*_, _%_, _≤_}
 use mathlib.Core.Logic.{_≢_}
 use mathlib.Core.Path.{_≡_, refl, _∙_}
 use mathlib.Core.Bool.{true, false, _&&_, and-false}

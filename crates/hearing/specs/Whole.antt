@@ -1,10 +1,11 @@
 -- A burst is heard whole, whatever its message (01, 'The receiver'): "A complete frame gives MESSAGE", and a second one "equal to the one just
--- given .. gives REPEAT and hunting follows"; "two clear half-cycles before a burst, nothing heard, three, heard".
+-- given .. gives REPEAT and hunting follows". What 01 runs as an example holds of every message: "two clear half-cycles before a burst, nothing
+-- heard, three, heard".
 use Prim.Native.Nat.{ℕ, _-_, _%_, _≤_}
 use mathlib.Core.Path.{_≡_}
 use mathlib.Core.Bool.{true}
 use mathlib.Core.List.{List, [], _∷_, _++_}
-use lib.ListN.{replicate}
+use lib.ListN.{length, replicate}
 use Rattle.message.specs.Messages.{messageOk, BytesOk}
 use Rattle.message.specs.declared.Message.{Message}
 use Rattle.burst.specs.Frames.{frameLength, burstOf}
@@ -43,10 +44,13 @@ pub record Hears (r : Receiver) (z : ℕ) (m : Message) : Type 0 where
   -- and then it hunts
   pub after : receiverAfter r (clear z ++ burstOf m) ≡ hunting (lastSix (r .past) (clear z ++ burstOf m))
 
--- A fresh receiver needs three clear half-cycles before the burst; one whose last three were 0 needs no further ones. More do no harm.
 pub record HeardWhole (m : Message) : Type 0 where
+  -- by a fresh receiver after three clear half-cycles or more
   pub fresh : (z : ℕ) → 3 ≤ z → Hears freshReceiver z m
+  -- by one whose last three half-cycles were 0, with no further clear ones or with any number
   pub ready : (r : Receiver) (z : ℕ) → Ready r → Hears r z m
+  -- of fewer than three and the burst, a fresh receiver says nothing at all
+  pub fewer : (z : ℕ) → z ≤ 2 → eventsOf freshReceiver (clear z ++ burstOf m) ≡ replicate (length (clear z ++ burstOf m)) Nothing
 
 -- the theorem: proofs/Whole.antt
 abbrev pub EveryBurstIsHeard : Type 0
