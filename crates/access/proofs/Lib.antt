@@ -5,7 +5,7 @@ pub mod PartHeard
 pub mod BenchLaws
 pub mod Tally
 pub mod Moments
-pub mod Races
+pub mod BurstCalls
 pub mod WholeList
 pub mod Compare
 pub mod Tracks

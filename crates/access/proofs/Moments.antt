@@ -1,7 +1,7 @@
 -- Between two calls the line is quiet or a burst is on it. Here: what that says, and that a call keeps it while none sends.
 --
 --     Bench, Kept              what holds at every moment: the messages; the slots, the marks, the answers
---     Quiet, Race, Sender, State     none sends; a burst is on the line; some station sends; the one or the other
+--     Quiet, Underway, Sender, State     none sends; a burst is on the line; some station sends; the one or the other
 --     Alike, alike, all-ok, line-half     what both say of the stations, and of the line
 --     keeps, going-right       what a call keeps, and its answer where none is DONE
 --     quiet-call               a call while none sends
@@ -46,7 +46,7 @@ module _ (n : ℕ) (message : ℕ → Message) where
     pub valid : (i : ℕ) → i < n → messageOk (message i) ≡ true
     pub bytes : (i : ℕ) → i < n → BytesOk (message i)
 
-  -- at every moment; start is what the slots held at the start
+  -- at every moment, the slots having held start at the start: a station is empty exactly when it has said DONE
   pub record Kept (start : List Station) (now : Moment) : Type 0 where
     pub room : n ≤ length (now .slots)
     pub beyond : drop n (now .slots) ≡ drop n start
@@ -62,8 +62,8 @@ module _ (n : ℕ) (message : ℕ → Message) where
     pub stations : (i : ℕ) → i < n → Stands (message i) [] c (slot now i)
     pub bound : (i : ℕ) → i < n → vacant (slot now i) ≡ 0 → length (now .past) ≤ callsEach * total n (now .past) + c
 
-  -- sent is on the line; before it z clear half-cycles were counted and the receiver stood at r
-  pub record Race (z : ℕ) (r : Receiver) (sent : List ℕ) (now : Moment) : Type 0 where
+  -- the burst so far is sent; before it z clear half-cycles were counted, and the receiver stood at r
+  pub record Underway (z : ℕ) (r : Receiver) (sent : List ℕ) (now : Moment) : Type 0 where
     pub before : List Answer
     pub ready : Ready r
     pub stations : (i : ℕ) → i < n → Stands (message i) sent (countedBy z sent) (slot now i)
@@ -80,7 +80,7 @@ module _ (n : ℕ) (message : ℕ → Message) where
 
   pub data State (now : Moment) : Type 0 where
     quiet : (c : ℕ) → Quiet c now → State now
-    busy : (z : ℕ) (r : Receiver) (sent : List ℕ) → Race z r sent now → 0 < length sent → Sender (countedBy z sent) sent now → State now
+    busy : (z : ℕ) (r : Receiver) (sent : List ℕ) → Underway z r sent now → Sender (countedBy z sent) sent now → State now
 
   -- either way all stations stand by one list of half-cycles and one count
   pub record Alike (now : Moment) : Type 0 where
@@ -90,7 +90,7 @@ module _ (n : ℕ) (message : ℕ → Message) where
 
   pub alike : (now : Moment) → State now → Alike now
   alike now (quiet c Q) = record { sent = []; count = c; stands = Q .stations }
-  alike now (busy z r sent R l F) = record { sent = sent; count = countedBy z sent; stands = R .stations }
+  alike now (busy z r sent R F) = record { sent = sent; count = countedBy z sent; stands = R .stations }
 
   module _ (B : Bench) (now : Moment) (A : Alike now) where
     pub all-ok : (i : ℕ) → i < n → stationOk (slot now i) ≡ true

@@ -141,7 +141,7 @@ module _ (n : ℕ) (message : ℕ → Message) (draw : ℕ → ℕ) (slots : Lis
       valid-w = valid w (G .below)
 
       -- k answers later the line has carried w's burst so far, and only those that started with w are as far
-      record Racing (k : ℕ) (x : Moment) : Type 0 where
+      record Ahead (k : ℕ) (x : Moment) : Type 0 where
         leads : k < burstLength m → Along m k (slot x w)
         carried : k ≤ burstLength m → Carried m k (linesOf (x .past))
         others : (i : ℕ) → i < n → Starts (message i) (slot now i) ⊎ Aside (message i) k (slot x i)
@@ -156,8 +156,8 @@ module _ (n : ℕ) (message : ℕ → Message) (draw : ℕ → ℕ) (slots : Lis
         unsent = ap (λ (s : Station). s .place) (x .is) ∙ e;
       })
 
-      racing-now : Racing 0 now
-      racing-now =
+      ahead-now : Ahead 0 now
+      ahead-now =
           let A = alike n message now (H .state) in
           let none = at-place (A .stands w (G .below)) (G .starts .holds) (G .starts .counted) (G .starts .unsent) .1 in
           record {
@@ -166,7 +166,7 @@ module _ (n : ℕ) (message : ℕ → Message) (draw : ℕ → ℕ) (slots : Lis
             others = λ i l. at-first i none (A .stands i l);
           }
 
-      module _ (k : ℕ) (x : Moment) (a : Answered x) (R : Racing k x) where
+      module _ (k : ℕ) (x : Moment) (a : Answered x) (R : Ahead k x) where
         -- the line carries what w sends: none that sends is ahead of it
         module _ (short : k < burstLength m) where
           abbrev half : ℕ
@@ -221,8 +221,8 @@ module _ (n : ℕ) (message : ℕ → Message) (draw : ℕ → ℕ) (slots : Lis
               go (no c) (inl e) = absurd (c e)
               go (no c) (inr (i, l, e)) = omega (arith, at-most, none-ahead i l e (omega arith))
 
-        racing-next : Racing (suc k) (after x a)
-        racing-next = record {
+        ahead-next : Ahead (suc k) (after x a)
+        ahead-next = record {
           leads = λ l.
               subst (Along m (suc k)) (sym (a .turns .next w (G .below)))
               (along-turn m valid-w (slot x w) (ok x a w (G .below)) (a .line) (getD (a .draws) w 0) (a .low) (a .turns .draw w (G .below))
@@ -240,7 +240,7 @@ module _ (n : ℕ) (message : ℕ → Message) (draw : ℕ → ℕ) (slots : Lis
 
       wins : (more : List (List ℕ)) → Drawn n more → (k : ℕ) → k ≤ burstLength m → length (run n now more .past) ≡ length (now .past) + k
           → Carried m k (linesOf (run n now more .past))
-      wins more d k short e = later Racing racing-now racing-next more d k e .carried short
+      wins more d k short e = later Ahead ahead-now ahead-next more d k e .carried short
 
 -- ---- the theorems
 

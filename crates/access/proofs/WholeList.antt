@@ -25,7 +25,7 @@ use Rattle.access.proofs.StationStates.{Stands, gone, waiting, sends, m
 use Rattle.access.proofs.BenchLaws.{Turns, bench-number, bench-refuses, bench-turns}
 use Rattle.access.proofs.Tally.{total, total-short}
 use Rattle.access.proofs.Moments.{slot, Bench, Kept, State, quiet, busy, alike, all-ok, line-half}
-use Rattle.access.proofs.Races.{next-state}
+use Rattle.access.proofs.BurstCalls.{next-state}
 
 -- a call is refused and changes nothing, or turns every station
 pub data Called (n : ℕ) (now : Moment) (draws : List ℕ) : Type 0 where
@@ -118,7 +118,7 @@ module _ (n : ℕ) (message : ℕ → Message) (draw : ℕ → ℕ) (slots : Lis
       where
         go : State n message now → total n (now .past) < n → length (now .past) < callsEach * n
         go (quiet c Q) k = omega (arith, Q .bound i l v, count-low c i v (Q .stations i l))
-        go (busy z r sent R j F) k = omega (arith, R .bound, F .sends .follows .more, burst-most (message (F .who)))
+        go (busy z r sent R F) k = omega (arith, R .bound, F .sends .follows .more, burst-most (message (F .who)))
 
     all-done : callsEach * n ≤ length (now .past) → (i : ℕ) → i < n → timesDone i (now .past) ≡ 1
     all-done many i l = go (ℕ-discrete (vacant (slot now i)) 0)

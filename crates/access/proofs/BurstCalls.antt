@@ -1,8 +1,8 @@
 -- A call while a burst is on the line, and then any call. What the receiver says is what it says to each burst that has begun as the line
 -- did: so where one station's burst ends, every burst that is still sent ends, and where it does not, none ends.
 --
---     race-goes-on, race-over     a call, before a burst's end and at it
---     next-state                  any call that is not refused
+--     burst-goes-on, burst-over     a call, before a burst's end and at it
+--     next-state                    any call that is not refused
 use mathlib.Core.Path.{_≡_, refl, sym, ap, ap₂, subst, _∙_}
 use mathlib.Core.Logic.{_⊎_, inl, inr}
 use mathlib.Core.Bool.{true, false}
@@ -37,13 +37,13 @@ use Rattle.access.proofs.Turns.{done-of, drawn}
 use Rattle.access.proofs.StationStates.{Front, Follows, front-more, front-less, whole, Sending, Stands, sending-half, who-sends, vacant, Outcome, outcome, ends-here, sends-still, Settles, keeps-sending, is-over, done-whole}
 use Rattle.access.proofs.PartHeard.{end-repeats, gives-this, says-cleanly, part-next, part-events, part-event, sent-and-heard}
 use Rattle.access.proofs.Tally.{total-grows, total-rises}
-use Rattle.access.proofs.Moments.{slot, newest, Bench, Kept, Quiet, Race, Sender, State, quiet, busy, keeps, going-right, quiet-call}
+use Rattle.access.proofs.Moments.{slot, newest, Bench, Kept, Quiet, Underway, Sender, State, quiet, busy, keeps, going-right, quiet-call}
 
 module _ (n : ℕ) (message : ℕ → Message) (B : Bench n message) (start : List Station) (now : Moment) (draws : List ℕ) where
   -- ---- a burst on the line
 
   module _ (h : ℕ) (low : h ≤ 1) (t : BenchTurn) (T : Turns n (now .slots) draws h t) (z : ℕ) (r : Receiver) (sent : List ℕ)
-      (R : Race n message z r sent now) (F : Sender n message (countedBy z sent) sent now)
+      (R : Underway n message z r sent now) (F : Sender n message (countedBy z sent) sent now)
       (same : getD (burstOf (message (F .who))) (length sent) 0 ≡ h) where
     -- the message of a station that sends what is heard
     abbrev m : Message
@@ -131,10 +131,10 @@ module _ (n : ℕ) (message : ℕ → Message) (B : Bench n message) (start : Li
           sends-still m valid sent (countedBy z sent) (slot now (F .who)) h (getD draws (F .who) 0) low (T .draw (F .who) (F .below)) (F .sends) same p
           (countedBy z longer)
 
-      race-goes-on : Kept n message start now
-          → Kept n message start (hears now t (Line h)) × Race n message z r longer (hears now t (Line h))
+      burst-goes-on : Kept n message start now
+          → Kept n message start (hears now t (Line h)) × Underway n message z r longer (hears now t (Line h))
           × Sender n message (countedBy z longer) longer (hears now t (Line h))
-      race-goes-on K = (
+      burst-goes-on K = (
         keeps n message start now draws h t T K (λ i l. going i l .0 .empties)
             (going-right n message start now draws h t T (λ i l. going i l .1) no-repeat gives cleanly),
         record {
@@ -191,10 +191,10 @@ module _ (n : ℕ) (message : ℕ → Message) (B : Bench n message) (start : Li
           go zero f = omega (arith, f refl)
           go (suc h) f = omega arith
 
-      race-over : Kept n message start now
+      burst-over : Kept n message start now
           → Kept n message start (hears now t (Line h)) × Quiet n message (countedBy z longer) (hears now t (Line h))
       unfolding standsAt
-      race-over K = (
+      burst-over K = (
         keeps n message start now draws h t T K (λ i l. over i l .empties)
             (record { done = all-heard; repeats = (λ e. (F .who, F .below, our-done), λ d. repeat); gives = gives; clean = cleanly }),
         record {
@@ -214,31 +214,31 @@ module _ (n : ℕ) (message : ℕ → Message) (B : Bench n message) (start : Li
     abbrev Next : ℕ → Type 0
     Next h = Kept n message start (hears now t (Line h)) × State n message (hears now t (Line h))
 
-    race-next : (h : ℕ) → h ≤ 1 → Turns n (now .slots) draws h t → (z : ℕ) (r : Receiver) (sent : List ℕ) → Race n message z r sent now
+    burst-next : (h : ℕ) → h ≤ 1 → Turns n (now .slots) draws h t → (z : ℕ) (r : Receiver) (sent : List ℕ) → Underway n message z r sent now
         → (F : Sender n message (countedBy z sent) sent now) → getD (burstOf (message (F .who))) (length sent) 0 ≡ h → Next h
-    race-next h low T z r sent R F same = go (ℕ-discrete (length sent + 1) (burstLength (message (F .who))))
+    burst-next h low T z r sent R F same = go (ℕ-discrete (length sent + 1) (burstLength (message (F .who))))
       where
         go : Dec (length sent + 1 ≡ burstLength (message (F .who))) → Next h
         go (yes p) =
-            let q = race-over h low t T z r sent R F same p K in
+            let q = burst-over h low t T z r sent R F same p K in
             (q .0, quiet (countedBy z (sent ++ h ∷ [])) (q .1))
         go (no p) =
-            let q = race-goes-on h low t T z r sent R F same p K in
-            (q .0, busy z r (sent ++ h ∷ []) (q .1) (omega (arith, length-append sent (h ∷ []))) (q .2))
+            let q = burst-goes-on h low t T z r sent R F same p K in
+            (q .0, busy z r (sent ++ h ∷ []) (q .1) (q .2))
 
     -- a 1 on the line is sent by some station
-    race-one : (h : ℕ) → suc h ≤ 1 → Turns n (now .slots) draws (suc h) t → (z : ℕ) (r : Receiver) (sent : List ℕ) → Race n message z r sent now → Next (suc h)
-    race-one h low T z r sent R = go (T .some)
+    one-heard : (h : ℕ) → suc h ≤ 1 → Turns n (now .slots) draws (suc h) t → (z : ℕ) (r : Receiver) (sent : List ℕ) → Underway n message z r sent now → Next (suc h)
+    one-heard h low T z r sent R = go (T .some)
       where
         go : (suc h ≡ 0) ⊎ ((i : ℕ) × (i < n) × (sendsOf (slot now i) ≡ suc h)) → Next (suc h)
         go (inl e) = absurd (omega arith)
         go (inr (i, l, e)) =
             let x = who-sends (message i) (B .valid i l) sent (countedBy z sent) (slot now i) (R .stations i l) (omega arith) in
-            race-next (suc h) low T z r sent R (record { who = i; below = l; sends = x })
+            burst-next (suc h) low T z r sent R (record { who = i; below = l; sends = x })
             (sym (sending-half (message i) (B .valid i l) sent (countedBy z sent) (slot now i) x) ∙ e)
 
     -- a quiet line on which a burst begins
-    begins : (c : ℕ) → Quiet n message c now → (i : ℕ) → i < n → Sending (message i) [] c (slot now i) → Race n message c (now .receiver) [] now
+    begins : (c : ℕ) → Quiet n message c now → (i : ℕ) → i < n → Sending (message i) [] c (slot now i) → Underway n message c (now .receiver) [] now
     unfolding receiverAfter eventsOf
     begins c Q i l x =
         let w : x .wait ≡ c = x .begun refl in
@@ -261,11 +261,11 @@ module _ (n : ℕ) (message : ℕ → Message) (B : Bench n message) (start : Li
         go (inl e) = absurd (omega arith)
         go (inr (i, l, e)) =
             let x = who-sends (message i) (B .valid i l) [] c (slot now i) (Q .stations i l) (omega arith) in
-            race-one h low T c (now .receiver) [] (begins c Q i l x)
+            one-heard h low T c (now .receiver) [] (begins c Q i l x)
 
     pub next-state : State n message now → (h : ℕ) → h ≤ 1 → Turns n (now .slots) draws h t → Next h
     next-state (quiet c Q) h low T = quiet-next c Q h low T
-    next-state (busy z r sent R l F) zero low T =
+    next-state (busy z r sent R F) zero low T =
         let sends = sending-half (message (F .who)) (B .valid (F .who) (F .below)) sent (countedBy z sent) (slot now (F .who)) (F .sends) in
-        race-next 0 low T z r sent R F (omega (arith, T .above (F .who) (F .below)))
-    next-state (busy z r sent R l F) (suc h) low T = race-one h low T z r sent R
+        burst-next 0 low T z r sent R F (omega (arith, T .above (F .who) (F .below)))
+    next-state (busy z r sent R F) (suc h) low T = one-heard h low T z r sent R
