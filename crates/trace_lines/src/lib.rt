@@ -15,6 +15,7 @@ ghost use lib.ListN.{length};
 ghost use Rattle.message.specs.Choice.{pick};
 ghost use Rattle.message.specs.Text.{bytesOf};
 ghost use Rattle.message.specs.declared.Message.the-variants.{Address, Function as Command, Extended};
+ghost use Rattle.receiver.specs.Receivers.{stepOf};
 ghost use Rattle.trace_lines.specs.Lines.{trimmed, digitsOf, letterOf, hexDigit, hexOf, field, messageFields, fieldsOf, lineText, lineOf, roomFor, Put};
 ghost use Rattle.trace_lines.specs.Trace.{atStart, printed, halfAfter, byteAfter, tracedOf, bufferAfter};
 
@@ -22,6 +23,9 @@ ghost use Rattle.trace_lines.specs.Trace.{atStart, printed, halfAfter, b
 pub const SIZE: usize = 65536;
 
 pub const LAST: usize = 65472;
+
+// The greatest number that a half-cycle has.
+pub const GREATEST: u64 = 18446744073709551615;
 
 // The kinds of line, filled up with 0.
 const ADDRESS: [u8; 16] = *b"ADDRESS\0\0\0\0\0\0\0\0\0";
@@ -275,4 +279,106 @@ pub fn put_event(out: &mut [u8; SIZE], at: usize, number: u64, event: Event) -> 
         Event::RefusedHalf => at,
         Event::RefusedState => at,
     }
+}
+
+// Where a trace stands before any byte.
+pub fn begin() -> Progress
+    ensures { λ p. ⌜ p ≡ atStart ⌝ }
+{
+    Progress {
+        receiver: fresh(),
+        number: 1,
+        stopped: false,
+    }
+}
+
+// One half-cycle, with its line.
+fn print_half(p: Progress, half: u8, out: &mut [u8; SIZE], at: usize) -> Printed
+    requires { ⌜ at ≤ 65472 ⌝ }
+    ensures { λ o. ⌜ (o .progress ≡ halfAfter p half) × Put (now (out .entry)) at (lineOf (p .number) (stepOf (p .receiver) half .event)) (now (out .exit)) (o .at) ⌝ }
+{
+    let r = p.receiver;
+    let heard = step(r, half);
+    let event = heard.event;
+    let next = heard.next;
+    let place = put_event(out, at, p.number, event);
+    if p.number == GREATEST {
+        return Printed {
+            progress: Progress {
+                receiver: next,
+                number: p.number,
+                stopped: true,
+            },
+            at: place,
+        };
+    }
+    Printed {
+        progress: Progress {
+            receiver: next,
+            number: p.number + 1,
+            stopped: false,
+        },
+        at: place,
+    }
+}
+
+// One byte of the input, with the line that it prints.
+fn print_byte(p: Progress, b: u8, out: &mut [u8; SIZE], at: usize) -> Printed
+    requires { ⌜ (p .stopped ≡ false) × (at ≤ 65472) ⌝ }
+    ensures { λ o. ⌜ (o .progress ≡ byteAfter p b) × Put (now (out .entry)) at (printed p b) (now (out .exit)) (o .at) ⌝ }
+{
+    if (b == 48) | (b == 49) {
+        return print_half(p, b - 48, out, at);
+    }
+    if (b == 10) | (b == 13) {
+        return Printed {
+            progress: p,
+            at: at,
+        };
+    }
+    let place = put_line(out, at, p.number, Line::BadByte);
+    let r = p.receiver;
+    Printed {
+        progress: Progress {
+            receiver: r,
+            number: p.number,
+            stopped: true,
+        },
+        at: place,
+    }
+}
+
+fn ended(p: Progress, taken: usize, length: usize) -> Traced
+    ensures { λ t. ⌜ t ≡ record { progress = p; taken = taken; length = length } ⌝ }
+{
+    Traced {
+        progress: p,
+        taken: taken,
+        length: length,
+    }
+}
+
+// The trace of a piece of the input, into the buffer from its front on. It ends early where the trace stops, or where the buffer has
+// no room for a further line; the rest of the piece is then to be handed in again.
+pub fn trace(p: Progress, input: &[u8], out: &mut [u8; SIZE]) -> Traced
+    ensures { λ t. ⌜ t ≡ tracedOf p (now (input .entry)) ⌝ }
+    ensures { λ t. ⌜ now (out .exit) ≡ bufferAfter p (now (input .entry)) (now (out .entry)) ⌝ }
+{
+    let mut q = p;
+    let mut at: usize = 0;
+    let mut i: usize = 0;
+    while i < input.len() {
+        if q.stopped {
+            return ended(q, i, at);
+        }
+        if at > LAST {
+            return ended(q, i, at);
+        }
+        let done = print_byte(q, input[i], out, at);
+        let next = done.progress;
+        q = next;
+        at = done.at;
+        i += 1;
+    }
+    ended(q, i, at)
 }
