@@ -3,9 +3,12 @@
 --     half-taken, byte-skipped, byte-refused     what a byte prints, and where the trace then stands
 --     trace-append, progress-append     the trace of two lists, one after the other
 --     trace-by-pieces                   a piece, and then the rest from where the trace stands
---     progress-stopped                  nothing moves a trace that has stopped
+--     progress-none, progress-stopped   no byte; nothing moves a trace that has stopped
 --     taken-none, taken-stopped, taken-full, taken-more     how many bytes of a piece are taken
+--     taken-at-most, taken-some         no more than there are, and at least one
 --     Going, going-starts, going-on, going-ends     the trace of a piece, byte after byte
+--     piece-taken                       the rest of a piece, from where its beginning leads
+--     follows-none, follows-then        no further bytes; some, and then others
 use mathlib.Core.Path.{_≡_, refl, sym, ap, subst, _∙_}
 use mathlib.Core.Bool.{Bool, true, false, _&&_, not}
 use mathlib.Core.List.{List, [], _∷_, _++_, append-assoc, append-nil}
@@ -14,13 +17,13 @@ use native.Mathlib.Nat.{add-zero, zero-add}
 use native.Mathlib.Numerals.{add-one}
 use native.Mathlib.Omega.{arith}
 use borrow.Author.Tests.{le-leb, lt-leb}
-use lib.Dec.{leb}
+use lib.Dec.{leb, lit≤}
 use lib.ListN.{length, take, drop, getD, length-append, take-append-drop}
 use lib.Seq.{sets, take-suc, drop-cons}
 use Rattle.message.specs.Choice.{pick}
 use Rattle.receiver.specs.Receivers.{stepOf}
 use Rattle.trace_lines.specs.Lines.{lineText, lineOf, Put, LAST}
-use Rattle.trace_lines.specs.Trace.{isHalf, isSkipped, printed, halfAfter, byteAfter, traceFrom, progressAfter, takenFrom, pieceText, tracedOf, bufferAfter}
+use Rattle.trace_lines.specs.Trace.{isHalf, isSkipped, printed, halfAfter, byteAfter, traceFrom, progressAfter, takenFrom, pieceText, tracedOf, bufferAfter, Follows}
 use Rattle.trace_lines.specs.declared.Line.the-variants.{BadByte}
 use Rattle.trace_lines.specs.declared.Progress.{Progress}
 use Rattle.trace_lines.specs.declared.Traced.{Traced}
@@ -72,6 +75,10 @@ pub trace-by-pieces : (p : Progress) (k : ℕ) (input : List ℕ)
     → traceFrom p input ≡ traceFrom p (take k input) ++ traceFrom (progressAfter p (take k input)) (drop k input)
 trace-by-pieces p k input = ap (traceFrom p) (sym (take-append-drop k input)) ∙ trace-append p (take k input) (drop k input)
 
+pub progress-none : (p : Progress) → progressAfter p [] ≡ p
+unfolding progressAfter
+progress-none p = refl
+
 byte-stopped : (p : Progress) (b : ℕ) → p .stopped ≡ true → byteAfter p b ≡ p
 unfolding byteAfter
 byte-stopped p b s = rw s
@@ -101,6 +108,20 @@ pub taken-more : (p : Progress) (at b : ℕ) (s : List ℕ) → p .stopped ≡ f
     → takenFrom p at (b ∷ s) ≡ suc (takenFrom (byteAfter p b) (at + length (printed p b)) s)
 unfolding takenFrom
 taken-more p at b s e room = rw (e, le-leb at LAST room)
+
+pub taken-at-most : (p : Progress) (at : ℕ) (s : List ℕ) → takenFrom p at s ≤ length s
+unfolding takenFrom
+taken-at-most p at [] = omega arith
+taken-at-most p at (b ∷ s) = go (not (p .stopped) && leb at LAST) (taken-at-most (byteAfter p b) (at + length (printed p b)) s)
+  where
+    go : (t : Bool) → takenFrom (byteAfter p b) (at + length (printed p b)) s ≤ length s
+        → pick t (suc (takenFrom (byteAfter p b) (at + length (printed p b)) s)) 0 ≤ suc (length s)
+    go true most = omega arith
+    go false most = omega arith
+
+pub taken-some : (p : Progress) (s : List ℕ) → p .stopped ≡ false → 0 < length s → 1 ≤ takenFrom p 0 s
+taken-some p [] run h = omega arith
+taken-some p (b ∷ s) run h = omega (arith, taken-more p 0 b s run (lit≤ tt))
 
 -- ---- byte after byte
 
@@ -167,3 +188,25 @@ module _ {input out₀ : List ℕ} {p : Progress} {out : List ℕ} {q : Progress
             ∙ ap (λ (n : ℕ). record { progress = progressAfter p (take n input); taken = n; length = length (traceFrom p (take n input)) }) all,
         g .bytes ∙ ap (λ (n : ℕ). sets out₀ 0 (traceFrom p (take n input))) all,
       )
+
+-- the rest of a piece of which some bytes are taken
+pub piece-taken : (p : Progress) (s : List ℕ) (t : Traced) → t ≡ tracedOf p s → (t .taken ≡ takenFrom p 0 s) × (progressAfter (t .progress) (drop (t .taken) s) ≡ progressAfter p s)
+unfolding tracedOf
+piece-taken p s t e =
+    let k = takenFrom p 0 s in (
+      ap (λ (x : Traced). x .taken) e,
+      ap (λ (x : Traced). progressAfter (x .progress) (drop (x .taken) s)) e
+          ∙ sym (progress-append p (take k s) (drop k s))
+          ∙ ap (progressAfter p) (take-append-drop k s),
+    )
+
+pub follows-none : (p : Progress) → Follows p p
+follows-none p = record { input = []; stands = sym (progress-none p) }
+
+pub follows-then : {p q r : Progress} → Follows p q → Follows q r → Follows p r
+follows-then {p} {q} {r} f g =
+    record {
+      input = f .input ++ g .input;
+      stands =
+          g .stands ∙ ap (λ (x : Progress). progressAfter x (g .input)) (f .stands) ∙ sym (progress-append p (f .input) (g .input));
+    }

@@ -1,5 +1,6 @@
 -- The trace of an input (01, 'Line examples'): which bytes it prints, byte after byte.
 use Prim.Native.Nat.{ℕ, zero, suc, _+_, _-_}
+use mathlib.Core.Path.{_≡_}
 use mathlib.Core.Bool.{Bool, true, false, _&&_, _||_, not}
 use mathlib.Core.List.{List, [], _∷_, _++_}
 use lib.Dec.{leb, eqb}
@@ -84,3 +85,10 @@ tracedOf p input =
 
 unfoldable pub bufferAfter : Progress → List ℕ → List ℕ → List ℕ
 bufferAfter p input out = sets out 0 (pieceText p input)
+
+-- ---- the program
+
+-- where a trace stands after some further bytes: those that the program read, which no contract can name
+pub record Follows (p q : Progress) : Type 0 where
+  pub input : List ℕ
+  pub stands : q ≡ progressAfter p input

@@ -19,6 +19,8 @@ ghost use Rattle.receiver.specs.Receivers.{stepOf};
 ghost use Rattle.trace_lines.specs.Lines.{trimmed, digitsOf, letterOf, hexDigit, hexOf, field, messageFields, fieldsOf, lineText, lineOf, roomFor, Put};
 ghost use Rattle.trace_lines.specs.Trace.{atStart, printed, halfAfter, byteAfter, tracedOf, bufferAfter};
 
+pub mod run;
+
 // The bytes of the buffer that lines are put into, and the last place at which one may begin: no line is longer than 64.
 pub const SIZE: usize = 65536;
 
