@@ -366,13 +366,13 @@ pub fn trace(p: Progress, input: &[u8], out: &mut [u8; SIZE]) -> Traced
     ensures { λ t. ⌜ t ≡ tracedOf p (now (input .entry)) ⌝ }
     ensures { λ t. ⌜ now (out .exit) ≡ bufferAfter p (now (input .entry)) (now (out .entry)) ⌝ }
 {
+    if p.stopped {
+        return ended(p, 0, 0);
+    }
     let mut q = p;
     let mut at: usize = 0;
     let mut i: usize = 0;
     while i < input.len() {
-        if q.stopped {
-            return ended(q, i, at);
-        }
         if at > LAST {
             return ended(q, i, at);
         }
@@ -381,6 +381,9 @@ pub fn trace(p: Progress, input: &[u8], out: &mut [u8; SIZE]) -> Traced
         q = next;
         at = done.at;
         i += 1;
+        if q.stopped {
+            return ended(q, i, at);
+        }
     }
     ended(q, i, at)
 }
