@@ -130,8 +130,14 @@ fn given_valid(given: Given) -> bool
 fn acceptable(r: Receiver) -> bool
     ensures { λ b. ⌜ b ≡ receiverOk r ⌝ }
 {
+    if r.past > 63 {
+        return false;
+    }
+    if !pairs_fit(r.at, r.bits) {
+        return false;
+    }
     let given = r.given;
-    (r.past <= 63) & (pairs_fit(r.at, r.bits) & given_valid(given))
+    given_valid(given)
 }
 
 // The last six half-cycles with one more.

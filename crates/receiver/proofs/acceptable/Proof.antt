@@ -1,18 +1,29 @@
--- `acceptable` meets its contract: the three causes, each by the function that tests it.
+-- `acceptable` meets its contract: the three causes of STATE one after the other, each by its test.
+use mathlib.Core.Path.{sym, _∙_}
+use borrow.Author.Tests.{le-leb, lt-leb, not-true, not-false}
 use Rattle.receiver.specs.Receivers.{receiverOk}
 use borrow.Author.Needs.{needs}
 use Rattle.receiver.proofs.acceptable.Statement.{statement}
 use Rattle.receiver.proofs.acceptable.Tie as tie
 
+returns : tie.Need-returns
+unfolding receiverOk
+returns c = simp (lt-leb _ _ (c .if1 .taken))
+
 pairs-fit-requires : tie.Need-pairs-fit-requires
 pairs-fit-requires c κs = search needs
+
+returns-2 : tie.Need-returns-2
+unfolding receiverOk
+returns-2 c = simp (le-leb _ _ (c .before .before .if1 .left), sym (c .before .pairs-fit .ensures) ∙ not-true _ (c .if2 .taken))
 
 given-valid-requires : tie.Need-given-valid-requires
 given-valid-requires c κs = search needs
 
-returns : tie.Need-returns
+returns-3 : tie.Need-returns-3
 unfolding receiverOk
-returns c = simp (c .given-valid .ensures, c .before .pairs-fit .ensures)
+returns-3 c = simp (le-leb _ _ (c .before .before .before .if1 .left), sym (c .before .before .pairs-fit .ensures) ∙ not-false _ (c .before .if2 .left), c .given-valid .ensures)
 
 pub acceptable-spec : {M : Type 1} → statement M
-acceptable-spec = tie.close (tie.spec pairs-fit-requires given-valid-requires returns)
+acceptable-spec =
+    tie.close (tie.spec returns pairs-fit-requires returns-2 given-valid-requires returns-3)

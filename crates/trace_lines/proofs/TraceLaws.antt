@@ -1,0 +1,212 @@
+-- Laws of the trace of a list of bytes.
+--
+--     half-taken, byte-skipped, byte-refused     what a byte prints, and where the trace then stands
+--     trace-append, progress-append     the trace of two lists, one after the other
+--     trace-by-pieces                   a piece, and then the rest from where the trace stands
+--     progress-none, progress-stopped   no byte; nothing moves a trace that has stopped
+--     taken-none, taken-stopped, taken-full, taken-more     how many bytes of a piece are taken
+--     taken-at-most, taken-some         no more than there are, and at least one
+--     Going, going-starts, going-on, going-ends     the trace of a piece, byte after byte
+--     piece-taken                       the rest of a piece, from where its beginning leads
+--     follows-none, follows-then        no further bytes; some, and then others
+use mathlib.Core.Path.{_≡_, refl, sym, ap, subst, _∙_}
+use mathlib.Core.Bool.{Bool, true, false, _&&_, not}
+use mathlib.Core.List.{List, [], _∷_, _++_, append-assoc, append-nil}
+use Prim.Native.Nat.{ℕ, zero, suc, _+_, _-_, _≤_, _<_}
+use native.Mathlib.Nat.{add-zero, zero-add}
+use native.Mathlib.Numerals.{add-one}
+use native.Mathlib.Omega.{arith}
+use borrow.Author.Tests.{le-leb, lt-leb}
+use lib.Dec.{leb, lit≤}
+use lib.ListN.{length, take, drop, getD, length-append, take-append-drop}
+use lib.Seq.{sets, take-suc, drop-cons}
+use Rattle.message.specs.Choice.{pick}
+use Rattle.receiver.specs.Receivers.{stepOf}
+use Rattle.trace_lines.specs.Lines.{lineText, lineOf, Put, LAST}
+use Rattle.trace_lines.specs.Trace.{isHalf, isSkipped, printed, halfAfter, byteAfter, traceFrom, progressAfter, takenFrom, pieceText, tracedOf, bufferAfter, Follows}
+use Rattle.trace_lines.specs.declared.Line.the-variants.{BadByte}
+use Rattle.trace_lines.specs.declared.Progress.{Progress}
+use Rattle.trace_lines.specs.declared.Traced.{Traced}
+use Rattle.trace_lines.proofs.PutLaws.{sets-append}
+
+-- ---- one byte
+
+picked-true : {A : Type 0} (t : Bool) (x y : A) → t ≡ true → pick t x y ≡ x
+picked-true t x y e = rw e
+
+picked-false : {A : Type 0} (t : Bool) (x y : A) → t ≡ false → pick t x y ≡ y
+picked-false t x y e = rw e
+
+module _ (p : Progress) (b : ℕ) (run : p .stopped ≡ false) where
+  pub half-taken : isHalf b ≡ true → (byteAfter p b ≡ halfAfter p (b - 48)) × (printed p b ≡ lineOf (p .number) (stepOf (p .receiver) (b - 48) .event))
+  unfolding byteAfter printed
+  half-taken h = (picked-false (p .stopped) _ _ run ∙ picked-true (isHalf b) _ _ h, picked-false (p .stopped) _ _ run ∙ picked-true (isHalf b) _ _ h)
+
+  pub byte-skipped : isHalf b ≡ false → isSkipped b ≡ true → (byteAfter p b ≡ p) × (printed p b ≡ [])
+  unfolding byteAfter printed
+  byte-skipped h s = (
+    picked-false (p .stopped) _ _ run ∙ picked-false (isHalf b) _ _ h ∙ picked-true (isSkipped b) _ _ s,
+    picked-false (p .stopped) _ _ run ∙ picked-false (isHalf b) _ _ h ∙ picked-true (isSkipped b) _ _ s,
+  )
+
+  pub byte-refused : isHalf b ≡ false → isSkipped b ≡ false
+      → (byteAfter p b ≡ record { receiver = p .receiver; number = p .number; stopped = true }) × (printed p b ≡ lineText (p .number) BadByte)
+  unfolding byteAfter printed
+  byte-refused h s = (
+    picked-false (p .stopped) _ _ run ∙ picked-false (isHalf b) _ _ h ∙ picked-false (isSkipped b) _ _ s,
+    picked-false (p .stopped) _ _ run ∙ picked-false (isHalf b) _ _ h ∙ picked-false (isSkipped b) _ _ s,
+  )
+
+-- ---- two lists, one after the other
+
+pub trace-append : (p : Progress) (s t : List ℕ) → traceFrom p (s ++ t) ≡ traceFrom p s ++ traceFrom (progressAfter p s) t
+unfolding traceFrom progressAfter
+trace-append p [] t = refl
+trace-append p (b ∷ s) t =
+    ap (λ (l : List ℕ). printed p b ++ l) (trace-append (byteAfter p b) s t)
+    ∙ sym (append-assoc (printed p b) (traceFrom (byteAfter p b) s) (traceFrom (progressAfter (byteAfter p b) s) t))
+
+pub progress-append : (p : Progress) (s t : List ℕ) → progressAfter p (s ++ t) ≡ progressAfter (progressAfter p s) t
+unfolding progressAfter
+progress-append p [] t = refl
+progress-append p (b ∷ s) t = progress-append (byteAfter p b) s t
+
+pub trace-by-pieces : (p : Progress) (k : ℕ) (input : List ℕ)
+    → traceFrom p input ≡ traceFrom p (take k input) ++ traceFrom (progressAfter p (take k input)) (drop k input)
+trace-by-pieces p k input = ap (traceFrom p) (sym (take-append-drop k input)) ∙ trace-append p (take k input) (drop k input)
+
+pub progress-none : (p : Progress) → progressAfter p [] ≡ p
+unfolding progressAfter
+progress-none p = refl
+
+byte-stopped : (p : Progress) (b : ℕ) → p .stopped ≡ true → byteAfter p b ≡ p
+unfolding byteAfter
+byte-stopped p b s = rw s
+
+pub progress-stopped : (p : Progress) (s : List ℕ) → p .stopped ≡ true → progressAfter p s ≡ p
+unfolding progressAfter
+progress-stopped p [] e = refl
+progress-stopped p (b ∷ s) e = ap (λ (q : Progress). progressAfter q s) (byte-stopped p b e) ∙ progress-stopped p s e
+
+-- ---- how many bytes are taken
+
+pub taken-none : (p : Progress) (at : ℕ) → takenFrom p at [] ≡ 0
+unfolding takenFrom
+taken-none p at = refl
+
+pub taken-stopped : (p : Progress) (at : ℕ) (s : List ℕ) → p .stopped ≡ true → takenFrom p at s ≡ 0
+unfolding takenFrom
+taken-stopped p at [] e = refl
+taken-stopped p at (b ∷ s) e = rw e
+
+pub taken-full : (p : Progress) (at : ℕ) (s : List ℕ) → p .stopped ≡ false → LAST < at → takenFrom p at s ≡ 0
+unfolding takenFrom
+taken-full p at [] e past = refl
+taken-full p at (b ∷ s) e past = rw (e, lt-leb at LAST past)
+
+pub taken-more : (p : Progress) (at b : ℕ) (s : List ℕ) → p .stopped ≡ false → at ≤ LAST
+    → takenFrom p at (b ∷ s) ≡ suc (takenFrom (byteAfter p b) (at + length (printed p b)) s)
+unfolding takenFrom
+taken-more p at b s e room = rw (e, le-leb at LAST room)
+
+pub taken-at-most : (p : Progress) (at : ℕ) (s : List ℕ) → takenFrom p at s ≤ length s
+unfolding takenFrom
+taken-at-most p at [] = omega arith
+taken-at-most p at (b ∷ s) = go (not (p .stopped) && leb at LAST) (taken-at-most (byteAfter p b) (at + length (printed p b)) s)
+  where
+    go : (t : Bool) → takenFrom (byteAfter p b) (at + length (printed p b)) s ≤ length s
+        → pick t (suc (takenFrom (byteAfter p b) (at + length (printed p b)) s)) 0 ≤ suc (length s)
+    go true most = omega arith
+    go false most = omega arith
+
+pub taken-some : (p : Progress) (s : List ℕ) → p .stopped ≡ false → 0 < length s → 1 ≤ takenFrom p 0 s
+taken-some p [] run h = omega arith
+taken-some p (b ∷ s) run h = omega (arith, taken-more p 0 b s run (lit≤ tt))
+
+-- ---- byte after byte
+
+-- i bytes of a piece are taken: where the trace then stands, the buffer and the place in it, and how many bytes will be taken in all
+pub record Going (input out₀ : List ℕ) (p : Progress) (out : List ℕ) (q : Progress) (at i : ℕ) : Type 0 where
+  pub within : i ≤ length input
+  pub stands : q ≡ progressAfter p (take i input)
+  pub place : at ≡ length (traceFrom p (take i input))
+  pub bytes : out ≡ sets out₀ 0 (traceFrom p (take i input))
+  pub count : takenFrom p 0 input ≡ i + takenFrom q at (drop i input)
+
+pub going-starts : (input out : List ℕ) (p : Progress) → Going input out p out p 0 0
+unfolding traceFrom progressAfter
+going-starts input out p =
+    record { within = omega arith; stands = refl; place = refl; bytes = refl; count = sym (zero-add (takenFrom p 0 input)) }
+
+-- what is printed and where the trace stands after one more byte
+trace-snoc : (p : Progress) (s : List ℕ) (b : ℕ) → traceFrom p (s ++ (b ∷ [])) ≡ traceFrom p s ++ printed (progressAfter p s) b
+unfolding traceFrom
+trace-snoc p s b = trace-append p s (b ∷ []) ∙ ap (λ (l : List ℕ). traceFrom p s ++ l) (append-nil (printed (progressAfter p s) b))
+
+progress-snoc : (p : Progress) (s : List ℕ) (b : ℕ) → progressAfter p (s ++ (b ∷ [])) ≡ byteAfter (progressAfter p s) b
+unfolding progressAfter
+progress-snoc p s b = progress-append p s (b ∷ [])
+
+module _ {input out₀ : List ℕ} {p : Progress} {out : List ℕ} {q : Progress} {at i : ℕ} (g : Going input out₀ p out q at i) where
+  pub going-on : {q′ : Progress} {out′ : List ℕ} {at′ : ℕ} → i < length input → q .stopped ≡ false → at ≤ LAST
+      → q′ ≡ byteAfter q (getD input i 0) → Put out at (printed q (getD input i 0)) out′ at′ → Going input out₀ p out′ q′ at′ (i + 1)
+  going-on {q′} {out′} {at′} h run room e put =
+      let b = getD input i 0 in
+      let s = take i input in
+      let more : take (i + 1) input ≡ s ++ (b ∷ []) = ap (λ (n : ℕ). take n input) (add-one i) ∙ take-suc input i 0 h in
+      let says : traceFrom p (take (i + 1) input) ≡ traceFrom p s ++ printed q b =
+      ap (traceFrom p) more ∙ trace-snoc p s b ∙ ap (λ (x : Progress). traceFrom p s ++ printed x b) (sym (g .stands)) in
+      record {
+        within = omega arith;
+        stands = e ∙ ap (λ (x : Progress). byteAfter x b) (g .stands) ∙ sym (progress-snoc p s b) ∙ ap (progressAfter p) (sym more);
+        place =
+            put .place ∙ ap (λ (n : ℕ). n + length (printed q b)) (g .place)
+            ∙ sym (length-append (traceFrom p s) (printed q b)) ∙ ap length (sym says);
+        bytes =
+            put .bytes
+            ∙ ap (λ (l : List ℕ). sets l at (printed q b)) (g .bytes)
+            ∙ ap (λ (n : ℕ). sets (sets out₀ 0 (traceFrom p s)) n (printed q b)) (g .place ∙ sym (zero-add (length (traceFrom p s))))
+            ∙ sym (sets-append out₀ 0 (traceFrom p s) (printed q b))
+            ∙ ap (λ (l : List ℕ). sets out₀ 0 l) (sym says);
+        count =
+            let rest : takenFrom q at (drop i input) ≡ suc (takenFrom q′ at′ (drop (i + 1) input)) =
+            ap (takenFrom q at) (drop-cons input i 0 h)
+            ∙ taken-more q at b (drop (suc i) input) run room
+            ∙ ap (λ (x : Progress). suc (takenFrom x (at + length (printed q b)) (drop (suc i) input))) (sym e)
+            ∙ ap (λ (n : ℕ). suc (takenFrom q′ n (drop (suc i) input))) (sym (put .place))
+            ∙ ap (λ (n : ℕ). suc (takenFrom q′ at′ (drop n input))) (sym (add-one i)) in
+            omega (arith, g .count);
+      }
+
+  -- where no further byte is taken, that is the answer
+  pub going-ends : {t : Traced} → t ≡ record { progress = q; taken = i; length = at } → takenFrom q at (drop i input) ≡ 0
+      → (t ≡ tracedOf p input) × (out ≡ bufferAfter p input out₀)
+  unfolding tracedOf bufferAfter pieceText
+  going-ends {t} e none =
+      let all : i ≡ takenFrom p 0 input = omega (arith, g .count) in (
+        e ∙ (λ j. record { progress = g .stands j; taken = i; length = g .place j })
+            ∙ ap (λ (n : ℕ). record { progress = progressAfter p (take n input); taken = n; length = length (traceFrom p (take n input)) }) all,
+        g .bytes ∙ ap (λ (n : ℕ). sets out₀ 0 (traceFrom p (take n input))) all,
+      )
+
+-- the rest of a piece of which some bytes are taken
+pub piece-taken : (p : Progress) (s : List ℕ) (t : Traced) → t ≡ tracedOf p s → (t .taken ≡ takenFrom p 0 s) × (progressAfter (t .progress) (drop (t .taken) s) ≡ progressAfter p s)
+unfolding tracedOf
+piece-taken p s t e =
+    let k = takenFrom p 0 s in (
+      ap (λ (x : Traced). x .taken) e,
+      ap (λ (x : Traced). progressAfter (x .progress) (drop (x .taken) s)) e
+          ∙ sym (progress-append p (take k s) (drop k s))
+          ∙ ap (progressAfter p) (take-append-drop k s),
+    )
+
+pub follows-none : (p : Progress) → Follows p p
+follows-none p = record { input = []; stands = sym (progress-none p) }
+
+pub follows-then : {p q r : Progress} → Follows p q → Follows q r → Follows p r
+follows-then {p} {q} {r} f g =
+    record {
+      input = f .input ++ g .input;
+      stands =
+          g .stands ∙ ap (λ (x : Progress). progressAfter x (g .input)) (f .stands) ∙ sym (progress-append p (f .input) (g .input));
+    }
