@@ -84,24 +84,32 @@ held-moves m s heard draw ok half = go (decLt (s .count) (s .wait))
         send-moves m s heard draw level (held-within m (s .wait) (s .count) (s .place) ok)
         ∙ ap (λ (b : Bool). moveTurn (Holds m) (moveOf m s (pick b (getD (burstOf m) (s .place) 0) 0) heard draw)) (sym (eq-eqb (s .count) (s .wait) level))
 
--- one half-cycle of a judged station that sent, and heard no less
-module _ (s : Station) (sent heard draw : ℕ) (half : heard ≤ 1) (ok : stationOk s ≡ true) (drawn : drawOk draw ≡ true) (is : sendsOf s ≡ sent) (kept : sent ≤ heard) where
+-- what is known of a judged station that has sent its half-cycle and heard the line's
+pub record Ready (s : Station) (sent heard draw : ℕ) : Type 0 where
+  pub half : heard ≤ 1
+  pub ok : stationOk s ≡ true
+  pub drawn : drawOk draw ≡ true
+  pub is : sendsOf s ≡ sent
+  pub kept : sent ≤ heard
+
+-- one half-cycle of it
+module _ {s : Station} {sent heard draw : ℕ} (r : Ready s sent heard draw) where
   turn-moves : turnOf s heard draw ≡ heldMoves (s .held) s heard draw
   unfolding turnOf
-  turn-moves = rw (le-leb heard 1 half, ok, drawn, is, le-leb sent heard kept)
+  turn-moves = rw (le-leb heard 1 (r .half), r .ok, r .drawn, r .is, le-leb sent heard (r .kept))
 
   pub turn-empty : s .held ≡ Empty → turnOf s heard draw ≡ record { answer = turn.Going; next = s }
   turn-empty e = turn-moves ∙ ap (λ (h : Held). heldMoves h s heard draw) e
 
-  module _ (m : Message) (e : s .held ≡ Holds m) (v : Move) (by : v ≡ moveOf m s sent heard draw) where
+  module _ {m : Message} (e : s .held ≡ Holds m) {v : Move} (by : v ≡ moveOf m s sent heard draw) where
     turn-holds : turnOf s heard draw ≡ moveTurn (Holds m) v
     unfolding stationOk sendsOf
     turn-holds =
         turn-moves
         ∙ ap (λ (h : Held). heldMoves h s heard draw) e
-        ∙ held-moves m s heard draw (subst (λ (h : Held). heldOk h (s .wait) (s .count) (s .place) ≡ true) e ok) half
+        ∙ held-moves m s heard draw (subst (λ (h : Held). heldOk h (s .wait) (s .count) (s .place) ≡ true) e (r .ok)) (r .half)
         ∙ ap (λ (h : Held). moveTurn (Holds m) (moveOf m s (heldSends h (s .wait) (s .count) (s .place)) heard draw)) (sym e)
-        ∙ ap (λ (n : ℕ). moveTurn (Holds m) (moveOf m s n heard draw)) is
+        ∙ ap (λ (n : ℕ). moveTurn (Holds m) (moveOf m s n heard draw)) (r .is)
         ∙ ap (moveTurn (Holds m)) (sym by)
 
     pub turn-done : v .done ≡ true → turnOf s heard draw ≡ record { answer = turn.Done; next = emptyStation }
