@@ -3,7 +3,7 @@
 --     sends-told, refused-told     what the answer of `sends` says of the state
 --     turn-empty, turn-done, turn-on     one half-cycle of it, by its move
 use mathlib.Core.Path.{_≡_, refl, sym, ap, subst, _∙_}
-use mathlib.Core.Bool.{Bool, true, false, _&&_, _||_, and-eq-true-iff}
+use mathlib.Core.Bool.{Bool, true, false, and-eq-true-iff}
 use Prim.Native.Nat.{ℕ, zero, suc, _+_, _≤_, _<_}
 use native.Mathlib.Omega.{arith}
 use native.Mathlib.Decide.{decLt}
@@ -11,10 +11,9 @@ use borrow.Author.Tests.{leb-true, ltb-true, eq-eqb, ne-eqb, lt-ltb, le-ltb, le-
 use lib.Dec.{eqb, leb, ltb}
 use lib.ListN.{getD}
 use Rattle.message.specs.Choice.{pick}
-use Rattle.message.specs.Messages.{messageOk}
 use Rattle.message.specs.declared.Message.{Message}
 use Rattle.burst.specs.Frames.{burstOf, burstLength}
-use Rattle.station.specs.Stations.{emptyStation, loaded, sendsOn, drawOk, heldOk, stationOk, heldSends, sendsOf, sendOf, heldMoves, turnOf, isQuiet, idleOf, moveOf}
+use Rattle.station.specs.Stations.{emptyStation, loaded, sendsOn, drawOk, heldOk, stationOk, heldSends, sendsOf, sendOf, heldMoves, turnOf, moveOf}
 use Rattle.station.specs.declared.Move.{Move}
 use Rattle.station.specs.declared.Turn.{Turn}
 use Rattle.station.specs.declared.TurnAnswer.the-variants as turn

@@ -5,7 +5,7 @@ use message::word::word_of;
 ghost use mathlib.Core.Path.{_≡_};
 ghost use mathlib.Core.Bool.{true};
 ghost use mathlib.Core.List.{_∷_};
-ghost use Prim.Native.Nat.{_+_, _*_, _<_, _≤_};
+ghost use Prim.Native.Nat.{_+_, _<_, _≤_};
 ghost use lib.ListN.{getD};
 ghost use Rattle.burst.specs.Frames.{bitsOf, pairsOf, burstOf, burstLength};
 ghost use Rattle.station.specs.Stations.{emptyStation, drawOk, stationOk, loaded, loadOf, loadNumber, loadRefusal, sendsOf, sendOf, sentBy, sentOf, idleOf, moveOf, turnOf, turnNumber, turnRefusal};

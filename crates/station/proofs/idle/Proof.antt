@@ -1,5 +1,5 @@
 -- `idle` meets its contract: an empty station is idle in its one state, and one with a message while its count is below its wait.
-use mathlib.Core.Path.{sym, _∙_}
+use mathlib.Core.Path.{sym}
 use Rattle.station.specs.Stations.{stationOk, idleOf}
 use Rattle.station.proofs.StateLaws.{idle-empty, idle-holds}
 use borrow.Author.Needs.{needs}
