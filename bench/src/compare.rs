@@ -113,7 +113,7 @@ fn burst(rng: &mut Rng, size: usize) -> Tally {
             }
         }
     }
-    for _ in 0..1_200_000 * size {
+    for _ in 0..2_000_000 * size {
         let numbers = inputs::numbers(rng);
         case(numbers, rng);
     }
@@ -157,7 +157,7 @@ fn receive(rng: &mut Rng, size: usize) -> Tally {
     };
 
     // One half-cycle from every past and place, with bits and message given of any values.
-    for _ in 0..3 * size {
+    for _ in 0..4 * size {
         for past in 0..=255 {
             for at in 0..=255 {
                 for half in [0, 1, rng.byte()] {
@@ -167,14 +167,14 @@ fn receive(rng: &mut Rng, size: usize) -> Tally {
             }
         }
     }
-    for _ in 0..600_000 * size {
+    for _ in 0..900_000 * size {
         let from = inputs::receiver(rng);
         case(Some(&from), &[rng.below(2) as u8], EVENT, rng);
     }
 
     // Lines of any length, from fresh receivers, from where the last line ended, from any bytes.
     let mut line = Vec::new();
-    for i in 0..150_000 * size {
+    for i in 0..200_000 * size {
         let most = if i % 100 == 0 { MOST } else { 300 };
         let len = rng.below(most + 1);
         let bad = rng.one_in(4);
@@ -253,7 +253,7 @@ fn radio_read(rng: &mut Rng, size: usize) -> Tally {
             }
         }
     }
-    for _ in 0..600_000 * size {
+    for _ in 0..900_000 * size {
         let mut bytes = [0; 16];
         rng.fill(&mut bytes);
         bytes[..4].copy_from_slice(&inputs::radio_code(rng));
@@ -277,7 +277,7 @@ fn apply(rng: &mut Rng, size: usize) -> Tally {
         let rust = bytes::apply(table.rust(), numbers);
         tally.case(rattle, rust, &mut [&mut table], || format!("message {numbers:?}"));
     };
-    for i in 0..2500 * size {
+    for i in 0..3500 * size {
         inputs::table(rng, i % 4, &mut valid);
         case(Some(&valid), inputs::numbers(rng));
         // Messages one after the other, mostly for one house.
@@ -331,7 +331,7 @@ fn bench_run(rng: &mut Rng, size: usize) -> Tally {
     let mut draws = Lent::new("draws", 20 * CALLS + 32, rng);
     let mut lines = Lent::new("lines", CALLS + 8, rng);
     let mut marks = Lent::new("marks", 2 * CALLS + 16, rng);
-    for i in 0..300_000 * size {
+    for i in 0..400_000 * size {
         let n = if rng.one_in(16) { rng.below(20) } else { 1 + rng.below(16) };
         // Short ones mostly, and now and then as long as the slowest bench takes.
         let calls = if i % 200 == 0 { 134 * n.min(16) } else { rng.below(if i % 4 == 0 { 160 } else { 70 }) };
@@ -375,7 +375,7 @@ fn radio_route(rng: &mut Rng, size: usize) -> Tally {
         let rust = bytes::radio_route(table.rust(), code.rust());
         tally.case(rattle, rust, &mut [&mut table, &mut code], String::new);
     };
-    for i in 0..2500 * size {
+    for i in 0..3500 * size {
         inputs::table(rng, i % 4, &mut valid);
         case(Some(&valid), rng);
         for _ in 0..250 {
@@ -419,7 +419,7 @@ fn mains_route(rng: &mut Rng, size: usize) -> Tally {
         }
         tally.case(rattle, rust, &mut [&mut state, &mut table, &mut out], || format!("half {half}"));
     };
-    for i in 0..2500 * size {
+    for i in 0..3500 * size {
         inputs::table(rng, i % 4, &mut valid);
         case(Some(&fresh()), 0, Some(&valid), EVENT, rng);
         // A line from a fresh receiver.

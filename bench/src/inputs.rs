@@ -12,7 +12,7 @@ const RECORD: usize = 8;
 const RECORDS: usize = 256;
 
 /// Bytes at and around the bounds that the rules name.
-const EDGES: [u8; 18] = [0, 1, 2, 3, 4, 7, 8, 10, 14, 15, 16, 17, 60, 62, 63, 64, 128, 255];
+const EDGES: [u8; 20] = [0, 1, 2, 3, 4, 7, 8, 9, 10, 11, 14, 15, 16, 17, 60, 62, 63, 64, 128, 255];
 
 pub fn edge(rng: &mut Rng) -> u8 {
     if rng.one_in(4) {
