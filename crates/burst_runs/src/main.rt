@@ -48,65 +48,45 @@ fn digits(space: [u8; 126]) -> [u8; 126] {
     text
 }
 
+// An extended message: B2 to level 5.
+fn extended() -> Message {
+    Message::Extended {
+        house: 1,
+        unit: 1,
+        data: 197,
+        command: 49,
+    }
+}
+
+fn address(house: u8, unit: u8) -> Message {
+    Message::Address {
+        house: house,
+        unit: unit,
+    }
+}
+
+fn function(house: u8, function: Function) -> Message {
+    Message::Function {
+        house: house,
+        function: function,
+    }
+}
+
 fn main() {
-    show(b"A1", Message::Address { house: 0, unit: 0 }, 44);
-    show(b"A1", Message::Address { house: 0, unit: 0 }, 46);
-    show(b"A1", Message::Address { house: 0, unit: 0 }, 43);
-    show(b"A1", Message::Address { house: 0, unit: 0 }, 0);
-    show(
-        b"A ON",
-        Message::Function {
-            house: 0,
-            function: Function::On,
-        },
-        44,
-    );
-    show(
-        b"M13",
-        Message::Address {
-            house: 12,
-            unit: 12,
-        },
-        44,
-    );
+    show(b"A1", address(0, 0), 44);
+    show(b"A1", address(0, 0), 46);
+    show(b"A1", address(0, 0), 43);
+    show(b"A1", address(0, 0), 0);
+    show(b"A ON", function(0, Function::On), 44);
+    show(b"M13", address(12, 12), 44);
     show(
         b"P STATUS REQUEST",
-        Message::Function {
-            house: 15,
-            function: Function::StatusRequest,
-        },
+        function(15, Function::StatusRequest),
         44,
     );
-    show(
-        b"B2 C5 31",
-        Message::Extended {
-            house: 1,
-            unit: 1,
-            data: 197,
-            command: 49,
-        },
-        124,
-    );
-    show(
-        b"B2 C5 31",
-        Message::Extended {
-            house: 1,
-            unit: 1,
-            data: 197,
-            command: 49,
-        },
-        126,
-    );
-    show(
-        b"B2 C5 31",
-        Message::Extended {
-            house: 1,
-            unit: 1,
-            data: 197,
-            command: 49,
-        },
-        123,
-    );
-    show(b"house 16", Message::Address { house: 16, unit: 0 }, 44);
-    show(b"unit 16", Message::Address { house: 0, unit: 16 }, 43);
+    show(b"B2 C5 31", extended(), 124);
+    show(b"B2 C5 31", extended(), 126);
+    show(b"B2 C5 31", extended(), 123);
+    show(b"house 16", address(16, 0), 44);
+    show(b"unit 16", address(0, 16), 43);
 }
