@@ -8,6 +8,7 @@ use mathlib.Core.Path.{_≡_, refl, sym, ap, ap₂, _∙_}
 use mathlib.Core.Bool.{Bool, true, false, _&&_, not, and-eq-true-iff}
 use mathlib.Core.List.{List, [], _∷_}
 use Prim.Native.Nat.{ℕ, zero, suc, _+_, _≤_, min}
+use native.Mathlib.Nat.{le-of-suc-le-suc}
 use native.Mathlib.Omega.{arith}
 use borrow.Author.Tests.{leb-true}
 use lib.Dec.{eqb, leb, leb·zero, leb·suc-suc, eqb·suc-zero}
@@ -25,7 +26,7 @@ use Rattle.station.specs.declared.Loading.{Loading}
 use Rattle.station.specs.declared.SendAnswer.{SendAnswer}
 use Rattle.station.specs.declared.SendAnswer.the-variants as send
 use Rattle.station.specs.declared.Turn.{Turn}
-use Rattle.station.proofs.HalfAt.{half-below}
+use Rattle.burst.proofs.FrameLaws.{burst-halves}
 
 -- ---- the lowest of a list in rising order
 
@@ -100,7 +101,7 @@ held-below Empty wait count place = omega arith
 held-below (Holds m) wait count place = go (eqb count wait)
   where
     go : (b : Bool) → pick b (getD (burstOf m) place 0) 0 ≤ 1
-    go true = half-below m place
+    go true = le-of-suc-le-suc (burst-halves m place)
     go false = omega arith
 
 pub sends-below : (s : Station) → sendsOf s ≤ 1

@@ -6,7 +6,8 @@ use Prim.Native.Nat.{ℕ, _-_}
 use native.Mathlib.Omega.{arith}
 use lib.ListN.{getD}
 use Rattle.burst.specs.Frames.{bitsOf, pairsOf, frameOf, frameLength}
-use Rattle.station.proofs.HalfAt.{frame-of-bits, bits-few, burst-first, burst-second}
+use Rattle.burst.proofs.Writing.{count-at-most}
+use Rattle.station.proofs.HalfAt.{frame-of-bits, burst-first, burst-second}
 use borrow.Author.Needs.{needs}
 use Rattle.station.proofs.half_at.Statement.{statement}
 use Rattle.station.proofs.half_at.Tie as tie
@@ -15,13 +16,13 @@ bit-count-requires : tie.Need-bit-count-requires
 bit-count-requires c κs = search needs
 
 cast-bits : tie.Need-cast-bits
-cast-bits c = omega (arith, c .bit-count .ensures, bits-few (c .before .args .m))
+cast-bits c = omega (arith, c .bit-count .ensures, count-at-most (c .before .args .m))
 
 add-frame : tie.Need-add-frame
-add-frame c = omega (arith, c .bit-count .ensures, bits-few (c .before .args .m))
+add-frame c = omega (arith, c .bit-count .ensures, count-at-most (c .before .args .m))
 
 add-frame-2 : tie.Need-add-frame-2
-add-frame-2 c = omega (arith, c .bit-count .ensures, bits-few (c .before .args .m))
+add-frame-2 c = omega (arith, c .bit-count .ensures, count-at-most (c .before .args .m))
 
 word-of-requires : tie.Need-word-of-requires
 word-of-requires c κs = search needs
@@ -29,7 +30,7 @@ word-of-requires c κs = search needs
 frame-half-requires : tie.Need-frame-half-requires
 frame-half-requires c κs =
     let m = c .before .before .before .args .m in
-    let few = bits-few m in
+    let few = count-at-most m in
     let long = frame-of-bits m in
     (omega (arith, c .before .before .bit-count .ensures), ⊎-elim (λ w. omega (arith, c .before .before .bit-count .ensures)) (λ w. omega (arith, c .before .before .bit-count .ensures)) (c .before .if1 .came))
 
