@@ -30,7 +30,8 @@ use Rattle.access.specs.Calls.{Answer, Moment, linesOf, eventsIn, hears}
 use Rattle.access.specs.Demand3.{callsEach, timesDone, Right, AllRight}
 use Rattle.access.proofs.BurstLaws.{countedBy}
 use Rattle.access.proofs.BenchLaws.{turnAt, Turns}
-use Rattle.access.proofs.StationStates.{Sending, Stands, stands-ok, sends-half, mark, vacant, Settles, counts-on}
+use Rattle.station.proofs.NumberLaws.{sends-below}
+use Rattle.access.proofs.StationStates.{Sending, Stands, stands-ok, mark, vacant, Settles, counts-on}
 use Rattle.access.proofs.Tally.{total, total-grows}
 
 abbrev pub slot : Moment → ℕ → Station
@@ -101,7 +102,7 @@ module _ (n : ℕ) (message : ℕ → Message) where
       where
         go : (h ≡ 0) ⊎ ((i : ℕ) × (i < n) × (sendsOf (slot now i) ≡ h)) → h ≤ 1
         go (inl e) = omega arith
-        go (inr (i, l, e)) = omega (arith, sends-half (message i) (B .valid i l) (A .sent) (A .count) (slot now i) (A .stands i l))
+        go (inr (i, l, e)) = omega (arith, sends-below (slot now i))
 
   module _ (start : List Station) (now : Moment) (draws : List ℕ) (h : ℕ) (t : BenchTurn) (T : Turns n (now .slots) draws h t) where
     pub keeps : Kept start now

@@ -3,7 +3,7 @@
 --
 --     Front, Follows          a message's burst begins with what was sent; and is not over
 --     Sending, Stands, stands-ok     the three ways in which a station stands: gone, waiting, sending
---     sending-half, sends-half, who-sends     what such a station sends
+--     sending-half, who-sends     what such a station sends
 --     vacant                  1 for an empty station
 --     ends-here, sends-still  a station that sends what is heard, at its burst's end and before
 --     Outcome, outcome        what a half-cycle makes of a station, by the line's half-cycle
@@ -22,7 +22,7 @@ use Rattle.message.specs.Choice.{pick}
 use Rattle.message.specs.Messages.{messageOk}
 use Rattle.message.specs.declared.Message.{Message}
 use Rattle.burst.specs.Frames.{burstOf, burstLength}
-use Rattle.burst.proofs.FrameLaws.{burst-length, burst-halves}
+use Rattle.burst.proofs.FrameLaws.{burst-length}
 use Rattle.station.specs.declared.Station.{Station}
 use Rattle.station.specs.declared.Turn.{Turn}
 use Rattle.station.specs.declared.TurnAnswer.the-variants.{Done}
@@ -94,12 +94,6 @@ module _ (m : Message) (valid : messageOk m ≡ true) (sent : List ℕ) (z : ℕ
   -- what a station sends is the next half-cycle of its burst, or nothing
   pub sending-half : (s : Station) → Sending m sent z s → sendsOf s ≡ getD (burstOf m) (length sent) 0
   sending-half s x = ap sendsOf (x .is) ∙ sending-sends m (x .wait) valid (x .drawn-wait) (length sent)
-
-  pub sends-half : (s : Station) → Stands m sent z s → sendsOf s ≤ 1
-  unfolding sendsOf
-  sends-half s (gone e) = omega (arith, ap sendsOf e)
-  sends-half s (waiting w d l e) = omega (arith, ap sendsOf e ∙ waiting-sends m w valid d z l)
-  sends-half s (sends x) = omega (arith, sending-half s x, burst-halves m (length sent))
 
   pub who-sends : (s : Station) → Stands m sent z s → 1 ≤ sendsOf s → Sending m sent z s
   unfolding sendsOf
