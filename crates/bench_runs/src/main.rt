@@ -1,0 +1,166 @@
+// Runs of a bench, drawn half-cycle by half-cycle: who sends, who gives way, who is DONE, and what the line has.
+mod page;
+mod stations;
+
+use bench::BenchAnswer;
+use bench::BenchTurn;
+use libc::STDOUT_FILENO;
+use page::cell;
+use page::put;
+use page::put_labels;
+use page::put_line_label;
+use page::put_number;
+use page::put_ruler;
+use page::put_text;
+use page::row_at;
+use station::Held;
+use station::SendAnswer;
+use station::Station;
+use stations::a_against_b;
+use stations::all_empty;
+use stations::draws_at;
+use stations::put_stations;
+use stations::sixteen;
+use stations::waits_8_and_9;
+
+// Half-cycles enough for sixteen stations to be DONE: 134 for each.
+const LONGEST: usize = 2144;
+
+// The half-cycle that a station sends, as a digit.
+fn sent_mark(s: Station) -> u8 {
+    match station::sends(s) {
+        SendAnswer::Sends(half) => b'0' + half % 2,
+        SendAnswer::RefusedState => b'?',
+    }
+}
+
+// One half-cycle of one station: - empty, . waits, r waits anew, 0 or 1 sends that, x gives way, D is DONE.
+fn mark(before: Station, after: Station, done: bool) -> u8 {
+    if done {
+        return b'D';
+    }
+    let held = before.held;
+    match held {
+        Held::Empty => b'-',
+        Held::Holds(_) => {
+            if before.count < before.wait {
+                if after.count == 0 {
+                    return b'r';
+                }
+                return b'.';
+            }
+            if after.count == 0 {
+                return b'x';
+            }
+            sent_mark(before)
+        }
+    }
+}
+
+// What the line had, or the number of a refusal.
+fn line_mark(answer: BenchAnswer) -> u8 {
+    match answer {
+        BenchAnswer::Line(half) => b'0' + half % 2,
+        BenchAnswer::RefusedState => b'6',
+        BenchAnswer::RefusedDraw => b'7',
+    }
+}
+
+// The column of one half-cycle in a drawing: the line above, and below it one station after the other.
+fn put_column(
+    page: &mut [u8; 65536],
+    drawing: usize,
+    column: usize,
+    before: [Station; 16],
+    turn: BenchTurn,
+    n: usize,
+) {
+    let answer = turn.answer;
+    let after = turn.slots;
+    let done = turn.done;
+    put(page, cell(drawing, 1, column), line_mark(answer));
+    let mut k: usize = 0;
+    while k < 16 {
+        if k < n {
+            put(
+                page,
+                cell(drawing, k + 2, column),
+                mark(before[k], after[k], done[k]),
+            );
+        }
+        k += 1;
+    }
+}
+
+// Begins a drawing of the hundred half-cycles after the first t. The result is where it stands.
+fn begin(page: &mut [u8; 65536], at: usize, t: usize, n: usize) -> usize {
+    let mut drawing = put_text(page, at, b"half-cycles from ");
+    if t < LONGEST {
+        drawing = put_number(page, drawing, t + 1);
+    }
+    drawing = put_text(page, drawing, b"\n");
+    put_ruler(page, drawing);
+    put_line_label(page, drawing);
+    put_labels(page, drawing, n);
+    drawing
+}
+
+// Ends a run after t half-cycles.
+fn end(page: &mut [u8; 65536], at: usize, t: usize) -> usize {
+    let mut to = put_text(page, at, b"all DONE after ");
+    to = put_number(page, to, t);
+    put_text(page, to, b" half-cycles\n\n")
+}
+
+// A run of n stations until all are DONE.
+fn run(page: &mut [u8; 65536], at: usize, start: [Station; 16], n: usize, fixed: u8) -> usize {
+    let mut slots = start;
+    let mut next = put_stations(page, at, start);
+    let mut drawing = next;
+    let mut t: usize = 0;
+    while t < LONGEST {
+        if all_empty(slots) {
+            return end(page, next, t);
+        }
+        let column = t % 100;
+        if column == 0 {
+            drawing = begin(page, next, t, n);
+            if n <= 16 {
+                next = row_at(drawing, n + 2);
+            }
+        }
+        let turn = bench::half_cycle(slots, n, draws_at(t, fixed));
+        put_column(page, drawing, column, slots, turn, n);
+        let after = turn.slots;
+        slots = after;
+        t += 1;
+    }
+    next
+}
+
+// Writes the first n bytes of a text.
+fn write_front(text: &[u8], n: usize) {
+    if n <= text.len() {
+        io::write_all(STDOUT_FILENO, &text[..n]);
+    }
+}
+
+fn write_page(page: &[u8; 65536], n: usize) {
+    write_front(page, n);
+}
+
+fn main() {
+    let mut page = [b' '; 65536];
+    let mut at = put_text(
+        &mut page,
+        0,
+        b"- empty, . waits, r waits anew, 0 1 sends, x gives way, D is DONE\n\n",
+    );
+    at = put_text(&mut page, at, b"Waits 8 and 9\n");
+    at = run(&mut page, at, waits_8_and_9(), 2, 9);
+    at = put_text(&mut page, at, b"A1 against B1, equal waits\n");
+    at = run(&mut page, at, a_against_b(), 2, 8);
+    at = put_text(&mut page, at, b"Sixteen stations\n");
+    at = run(&mut page, at, sixteen(), 16, 0);
+    write_page(&page, at);
+}
