@@ -52,7 +52,7 @@ const FUNCTION_NAMES: [[u8; 16]; 16] = [
 ];
 
 // The code of a house or unit number, and 0 for a number above 15.
-pub fn line_code(number: u8) -> u8
+pub(crate) fn line_code(number: u8) -> u8
     ensures { λ r. ⌜ r ≡ codeOf number ⌝ }
 {
     let n = number as usize;
@@ -60,7 +60,7 @@ pub fn line_code(number: u8) -> u8
 }
 
 // The house or unit number whose code this is, and 16 for a code above 15.
-pub fn line_number(code: u8) -> u8
+pub(crate) fn line_number(code: u8) -> u8
     ensures { λ r. ⌜ r ≡ numberOf code ⌝ }
 {
     let n = code as usize;
