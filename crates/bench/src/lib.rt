@@ -49,12 +49,12 @@ fn draws_fine(draws: [u8; 16], n: usize) -> bool
     requires { ⌜ n ≤ length draws ⌝ }
     ensures { λ r. ⌜ r ≡ drawsOk (take n draws) ⌝ }
 {
-    let mut i = 0;
-    while i < n {
-        if !draw_ok(draws[i]) {
+    let mut d = 0;
+    while d < n {
+        if !draw_ok(draws[d]) {
             return false;
         }
-        i += 1;
+        d += 1;
     }
     true
 }
@@ -108,20 +108,20 @@ pub fn half_cycle(slots: [Station; 16], n: usize, draws: [u8; 16]) -> BenchTurn
     }
     let mut line: u8 = 0;
     let mut sent = [0; 16];
-    let mut i = 0;
-    while i < n {
-        if !idle(slots[i]) {
-            match sends(slots[i]) {
+    let mut k = 0;
+    while k < n {
+        if !idle(slots[k]) {
+            match sends(slots[k]) {
                 SendAnswer::RefusedState => {
                     return refused(BenchAnswer::RefusedState, slots);
                 }
                 SendAnswer::Sends(half) => {
-                    sent[i] = half;
+                    sent[k] = half;
                     line = line | half;
                 }
             }
         }
-        i += 1;
+        k += 1;
     }
     if !draws_fine(draws, n) {
         return refused(BenchAnswer::RefusedDraw, slots);

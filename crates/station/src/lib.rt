@@ -8,7 +8,7 @@ ghost use mathlib.Core.List.{_∷_};
 ghost use Prim.Native.Nat.{_+_, _<_, _≤_};
 ghost use lib.ListN.{getD};
 ghost use Rattle.burst.specs.Frames.{bitsOf, pairsOf, burstOf, burstLength};
-ghost use Rattle.station.specs.Stations.{emptyStation, drawOk, stationOk, loaded, loadOf, loadNumber, loadRefusal, sendsOf, sendOf, sentBy, sentOf, idleOf, moveOf, turnOf, turnNumber, turnRefusal};
+ghost use Rattle.station.specs.Stations.{emptyStation, drawOk, stationOk, loadOf, loadNumber, loadRefusal, sendsOf, sendOf, sentBy, sentOf, idleOf, moveOf, turnOf, turnNumber, turnRefusal};
 
 pub enum Held {
     Empty,
@@ -70,16 +70,23 @@ pub struct Move {
     pub place: u8,
 }
 
+// A station that has counted nothing and sent nothing.
+fn at_start(held: Held, wait: u8) -> Station
+    ensures { λ r. ⌜ r ≡ record { held = held; wait = wait; count = 0; place = 0 } ⌝ }
+{
+    Station {
+        held: held,
+        wait: wait,
+        count: 0,
+        place: 0,
+    }
+}
+
 // A station with no message.
 pub fn empty() -> Station
     ensures { λ r. ⌜ r ≡ emptyStation ⌝ }
 {
-    Station {
-        held: Held::Empty,
-        wait: 8,
-        count: 0,
-        place: 0,
-    }
+    at_start(Held::Empty, 8)
 }
 
 // Whether a draw is 8 to 10.
@@ -174,18 +181,6 @@ pub fn sends(s: Station) -> SendAnswer
     }
 }
 
-// A station with a message that waits from its first clear half-cycle on.
-fn fresh(m: Message, draw: u8) -> Station
-    ensures { λ r. ⌜ r ≡ loaded m draw ⌝ }
-{
-    Station {
-        held: Held::Holds(m),
-        wait: draw,
-        count: 0,
-        place: 0,
-    }
-}
-
 // Gives an empty station a message and a wait.
 pub fn load(s: Station, m: Message, draw: u8) -> Loading
     ensures { λ o. ⌜ o ≡ loadOf s m draw ⌝ }
@@ -213,7 +208,7 @@ pub fn load(s: Station, m: Message, draw: u8) -> Loading
     match held {
         Held::Empty => Loading {
             answer: LoadAnswer::Loaded,
-            next: fresh(m, draw),
+            next: at_start(Held::Holds(m), draw),
         },
         Held::Holds(_) => Loading {
             answer: LoadAnswer::RefusedBusy,

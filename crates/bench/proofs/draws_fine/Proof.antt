@@ -13,10 +13,10 @@ use Rattle.bench.proofs.draws_fine.Statement.{statement}
 use Rattle.bench.proofs.draws_fine.Tie as tie
 
 abbrev Inv-loop : tie.InvT-loop
-Inv-loop n draws i₀ i = (i ≤ n) × (drawsOk (slice i n draws) ≡ drawsOk (take n draws))
+Inv-loop n draws d₀ d = (d ≤ n) × (drawsOk (slice d n draws) ≡ drawsOk (take n draws))
 
 abbrev μ-loop : tie.MeasureT-loop
-μ-loop n draws i₀ i = n - i
+μ-loop n draws d₀ d = n - d
 
 loop-holds : tie.Need-loop-holds Inv-loop μ-loop
 loop-holds c = (omega arith, refl)
@@ -30,11 +30,11 @@ draw-ok-requires c κs = search needs
 returns : tie.Need-returns Inv-loop μ-loop
 returns c =
     let a = c .before .before .before .before .args in
-    let i = c .before .before .before .loop .i in
+    let i = c .before .before .before .loop .d in
     sym (sym (c .before .before .before .loop .inv .1) ∙ draws-more (a .n) (a .t1) i (c .before .before .before .before .pre) (c .before .before .loop-test .taken) ∙ rw (bad (c .before .draw-ok .ensures) (c .if1 .taken)))
 
-add-i : tie.Need-add-i Inv-loop μ-loop
-add-i c = omega arith
+add-d : tie.Need-add-d Inv-loop μ-loop
+add-d c = omega arith
 
 loop-less : tie.Need-loop-less Inv-loop μ-loop
 loop-less c = omega arith
@@ -42,7 +42,7 @@ loop-less c = omega arith
 loop-again : tie.Need-loop-again Inv-loop μ-loop
 loop-again c =
     let a = c .before .before .before .before .args in
-    let i = c .before .before .before .loop .i in
+    let i = c .before .before .before .loop .d in
     rw (add-one i)
     (c .before .before .loop-test .taken, sym (draws-more (a .n) (a .t1) i (c .before .before .before .before .pre) (c .before .before .loop-test .taken) ∙ rw (fine (c .before .draw-ok .ensures) (c .if1 .left))) ∙ c .before .before .before .loop .inv .1)
 
@@ -50,7 +50,7 @@ returns-2 : tie.Need-returns-2 Inv-loop μ-loop
 unfolding drawsOk
 returns-2 c =
     let a = c .before .before .args in
-    let end : c .before .loop .i ≡ a .n = omega arith in
+    let end : c .before .loop .d ≡ a .n = omega arith in
     ap drawsOk (sym (slice-empty (a .n) (a .t1))) ∙ ap (λ (k : ℕ). drawsOk (slice k (a .n) (a .t1))) (sym end) ∙ c .before .loop .inv .1
 
 pub draws-fine-spec : {M : Type 1} → statement M
@@ -63,7 +63,7 @@ draws-fine-spec =
     array-read-draw-ok
     draw-ok-requires
     returns
-    add-i
+    add-d
     loop-less
     loop-again
     returns-2)

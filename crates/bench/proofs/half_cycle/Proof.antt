@@ -21,10 +21,10 @@ use Rattle.bench.proofs.half_cycle.Statement.{statement}
 use Rattle.bench.proofs.half_cycle.Tie as tie
 
 abbrev Inv-loop : tie.InvT-loop
-Inv-loop n draws slots line₀ sent₀ i₀ line sent i = Heard n slots line sent i
+Inv-loop n draws slots line₀ sent₀ k₀ line sent k = Heard n slots line sent k
 
 abbrev μ-loop : tie.MeasureT-loop
-μ-loop n draws slots line₀ sent₀ i₀ line sent i = n - i
+μ-loop n draws slots line₀ sent₀ k₀ line sent k = n - k
 
 -- how many stations there are was judged first
 counted : (c : tie.Else1 Inv-loop μ-loop) → (leb 1 (c .before .args .n) && leb (c .before .args .n) 16) ≡ true
@@ -37,7 +37,7 @@ few c = let n = c .before .args .n in leb-true n 16 (and-eq-true-iff (leb 1 n) (
 heard : (c : tie.After-loop Inv-loop μ-loop) → Heard (c .before .before .before .args .n) (c .before .before .before .args .t1) (c .before .loop .line) (c .before .loop .sent) (c .before .before .before .args .n)
 heard c =
     let a = c .before .before .before .args in
-    let end : c .before .loop .i ≡ a .n = omega (arith, c .before .loop .inv .within) in
+    let end : c .before .loop .k ≡ a .n = omega (arith, c .before .loop .inv .within) in
     subst (λ (k : ℕ). Heard (a .n) (a .t1) (c .before .loop .line) (c .before .loop .sent) k) end (c .before .loop .inv)
 
 refused-requires : tie.Need-refused-requires Inv-loop μ-loop
@@ -86,7 +86,7 @@ returns-2 c =
     let a = c .before .before .before .before .before .before .before .before .before .before .before .args in
     bench-promise (a .n) (a .t1) (a .draws)
     (c .refused2 .ensures
-    ∙ rw (counted (c .before .before .before .before .before .before .before .before .before .before), heard-bad (omega (arith, few (c .before .before .before .before .before .before .before .before .before .before))) (c .before .before .before .before .before .before .before .before .loop-test .taken) zeros (c .before .before .before .before .before .before .before .before .before .loop .inv) (refused-told (getD (a .t1) (c .before .before .before .before .before .before .before .before .before .loop .i) zeros) (sym (c .before .before .before .sends .ensures .0) ∙ c .before .enum-told .given .1))))
+    ∙ rw (counted (c .before .before .before .before .before .before .before .before .before .before), heard-bad (omega (arith, few (c .before .before .before .before .before .before .before .before .before .before))) (c .before .before .before .before .before .before .before .before .loop-test .taken) zeros (c .before .before .before .before .before .before .before .before .before .loop .inv) (refused-told (getD (a .t1) (c .before .before .before .before .before .before .before .before .before .loop .k) zeros) (sym (c .before .before .before .sends .ensures .0) ∙ c .before .enum-told .given .1))))
 
 enum-known-half : tie.Need-enum-known-half Inv-loop μ-loop
 enum-known-half c = search needs
@@ -95,8 +95,8 @@ array-write-sent : tie.Need-array-write-sent Inv-loop μ-loop
 array-write-sent c =
     omega (arith, few (c .before .before .before .before .before .before .before .before .before .before))
 
-add-i : tie.Need-add-i Inv-loop μ-loop
-add-i c = search needs
+add-k : tie.Need-add-k Inv-loop μ-loop
+add-k c = search needs
 
 loop-less : tie.Need-loop-less Inv-loop μ-loop
 loop-less c = search needs
@@ -105,9 +105,9 @@ loop-again : tie.Need-loop-again Inv-loop μ-loop
 loop-again c =
     let a = c .before .before .before .before .before .before .args in
     let l = c .before .before .before .before .loop in
-    let s = getD (a .t1) (l .i) zeros in
+    let s = getD (a .t1) (l .k) zeros in
     let all : a .n ≤ length (a .t1) = omega (arith, few (c .before .before .before .before .before)) in
-    rw (add-one (l .i))
+    rw (add-one (l .k))
     (⊎-elim
     (λ w.
     let half = w .4 .given .0 .0 in
@@ -170,7 +170,7 @@ half-cycle-spec =
     returns-2
     enum-known-half
     array-write-sent
-    add-i
+    add-k
     loop-less
     loop-again
     draws-fine-requires

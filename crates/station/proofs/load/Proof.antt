@@ -39,8 +39,8 @@ returns-3 c =
 enum-told : tie.Need-enum-told
 enum-told c = search needs
 
-fresh-requires : tie.Need-fresh-requires
-fresh-requires c κs = search needs
+at-start-requires : tie.Need-at-start-requires
+at-start-requires c κs = search needs
 
 enum-told-2 : tie.Need-enum-told-2
 enum-told-2 c = search needs
@@ -50,7 +50,7 @@ unfolding loadOf
 returns-4 c =
     let a = c .before .before .before .before .before .before .before .before .before .args in
     load-promise (a .s) (a .m) (a .draw)
-    (rw (c .fresh .ensures, fine (c .before .before .before .before .before .before .before .before .valid .ensures) (c .before .before .before .before .before .before .before .if1 .left), fine (c .before .before .before .before .before .before .station-ok .ensures) (c .before .before .before .before .before .if2 .left), fine (c .before .before .before .before .draw-ok .ensures) (c .before .before .before .if3 .left), c .before .enum-told .given .1))
+    (rw (c .at-start .ensures, fine (c .before .before .before .before .before .before .before .before .valid .ensures) (c .before .before .before .before .before .before .before .if1 .left), fine (c .before .before .before .before .before .before .station-ok .ensures) (c .before .before .before .before .before .if2 .left), fine (c .before .before .before .before .draw-ok .ensures) (c .before .before .before .if3 .left), c .before .enum-told .given .1))
 
 returns-5 : tie.Need-returns-5
 unfolding loadOf
@@ -70,7 +70,7 @@ load-spec =
     draw-ok-requires
     returns-3
     enum-told
-    fresh-requires
+    at-start-requires
     enum-told-2
     returns-4
     returns-5)
