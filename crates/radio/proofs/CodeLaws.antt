@@ -1,0 +1,142 @@
+-- Laws of the radio codes: the houses' table is one-to-one, and so are the b and c of the commands.
+--
+--     nibbles-one-to-one                  no four bits stand twice in the houses' table
+--     house-of-nibble, nibble-of-house    four bits read back, both ways
+--     nibble-below, house-below           four bits and houses are below 16
+--     Bits, bits, digits, bit             a number below 16 by its bits
+--     below, both-below                   the numbers of a valid command
+--     bytes-one-to-one                    no two valid commands have the same b and c
+use mathlib.Core.Path.{_≡_, refl, sym, ap, ap₂, _∙_}
+use mathlib.Core.Bool.{Bool, true, _&&_, and-eq-true-iff}
+use Prim.Native.Nat.{ℕ, _+_, _*_, _/_, _%_, _≤_, _<_}
+use native.Mathlib.Omega.{arith}
+use native.Mathlib.Decide.{decLt}
+use borrow.Author.Tests.{eqb-true, ltb-true, leb-true, ne-eqb}
+use lib.Dec.{eqb, ltb, leb, lit<}
+use lib.ListN.{getD, List·getD-eq-default}
+use Rattle.message.specs.Choice.{pick}
+use Rattle.message.specs.Codes.{placeIn}
+use Rattle.message.proofs.Tables.{everyFrom, every-at, ReadsBack, read-back, one-to-one}
+use Rattle.radio.specs.Codes.{houseNibbles, nibbleOf, houseOf, houseInB, unitInB, unitInC, byteB, byteC, commandOk, sixteen}
+use Rattle.radio.specs.declared.RadioCommand.{RadioCommand}
+use Rattle.radio.specs.declared.RadioCommand.the-variants.{On, Off, Bright, Dim}
+
+-- ---- the houses' four bits
+
+nibbles-read-back : ReadsBack eqb houseNibbles
+unfolding houseNibbles placeIn
+nibbles-read-back = refl
+
+pub nibbles-one-to-one : (i j : ℕ) → i < 16 → j < 16 → nibbleOf i ≡ nibbleOf j → i ≡ j
+unfolding nibbleOf houseNibbles
+nibbles-one-to-one i j hi hj e = one-to-one eqb houseNibbles 0 i j nibbles-read-back hi hj e
+
+pub house-of-nibble : (h : ℕ) → h < 16 → houseOf (nibbleOf h) ≡ h
+unfolding nibbleOf houseOf houseNibbles
+house-of-nibble h l = read-back eqb houseNibbles 0 h nibbles-read-back l
+
+pub nibble-below : (h : ℕ) → nibbleOf h < 16
+unfolding nibbleOf houseNibbles
+nibble-below h = go (decLt h 16)
+  where
+    go : Dec (h < 16) → nibbleOf h < 16
+    go (yes l) = ltb-true (getD houseNibbles h 0) 16 (every-at (λ k x. ltb x 16) houseNibbles 0 h refl l)
+    go (no l) = let past : 16 ≤ h = omega arith in rw (List·getD-eq-default houseNibbles 0 past) (lit< tt)
+
+-- what a test says at each of the sixteen numbers
+at-sixteen : (f : ℕ → Bool) → everyFrom (λ k x. f k) 0 sixteen ≡ true → (n : ℕ) → n < 16 → f n ≡ true
+unfolding sixteen
+at-sixteen f t n l = every-at (λ k x. f k) sixteen 0 n t l
+
+pub nibble-of-house : (n : ℕ) → n < 16 → nibbleOf (houseOf n) ≡ n
+unfolding nibbleOf houseOf houseNibbles placeIn sixteen
+nibble-of-house n l = eqb-true (nibbleOf (houseOf n)) n (at-sixteen (λ k. eqb (nibbleOf (houseOf k)) k) refl n l)
+
+pub house-below : (n : ℕ) → n < 16 → houseOf n < 16
+unfolding houseOf houseNibbles placeIn sixteen
+house-below n l = ltb-true (houseOf n) 16 (at-sixteen (λ k. ltb (houseOf k) 16) refl n l)
+
+-- ---- bits
+
+pub bit : (n : ℕ) → n % 2 < 2
+bit n = omega arith
+
+-- n has the bits w, x, y, z
+pub record Bits (n w x y z : ℕ) : Type 0 where
+  pub eight : n / 8 % 2 ≡ w
+  pub four : n / 4 % 2 ≡ x
+  pub two : n / 2 % 2 ≡ y
+  pub one : n % 2 ≡ z
+  pub small : n ≤ 15
+
+pub bits : (n w x y z : ℕ) → w < 2 → x < 2 → y < 2 → z < 2 → n ≡ w * 8 + x * 4 + y * 2 + z → Bits n w x y z
+bits n w x y z hw hx hy hz is = omega arith
+
+pub digits : (n : ℕ) → n < 16 → n / 8 % 2 * 8 + n / 4 % 2 * 4 + n / 2 % 2 * 2 + n % 2 ≡ n
+unfolding sixteen
+digits n l =
+    eqb-true (n / 8 % 2 * 8 + n / 4 % 2 * 4 + n / 2 % 2 * 2 + n % 2) n
+    (at-sixteen (λ k. eqb (k / 8 % 2 * 8 + k / 4 % 2 * 4 + k / 2 % 2 * 2 + k % 2) k) refl n l)
+
+-- ---- a command from its b and its c
+
+-- the bits of an on's or off's c: q, t and o of the unit's 4, 2 and 1, and f for off
+record SwitchBits (c q t o f : ℕ) : Type 0 where
+  six : c / 64 % 2 ≡ q
+  five : c / 32 % 2 ≡ f
+  four : c / 16 % 2 ≡ o
+  three : c / 8 % 2 ≡ t
+  low : c < 128
+
+switch-bits : (c q t o f : ℕ) → q < 2 → t < 2 → o < 2 → f < 2 → c ≡ q * 64 + t * 8 + o * 16 + f * 32 → SwitchBits c q t o f
+switch-bits c q t o f hq ht ho hf is = omega arith
+
+-- the unit and the command, taken out of the bits
+unfoldable pub unitFrom : ℕ → ℕ → ℕ
+unitFrom b c = b / 4 % 2 * 8 + c / 64 % 2 * 4 + c / 8 % 2 * 2 + c / 16 % 2
+
+unfoldable commandFrom : ℕ → ℕ → RadioCommand
+commandFrom b c =
+    pick (eqb c 136) (Bright (houseOf (b / 16)))
+    (pick (eqb c 152) (Dim (houseOf (b / 16)))
+    (pick (eqb (c / 32 % 2) 0) (On (houseOf (b / 16)) (unitFrom b c)) (Off (houseOf (b / 16)) (unitFrom b c))))
+
+from-switch : (h u c f : ℕ) → h < 16 → u < 16 → f < 2 → c ≡ unitInC u + f * 32
+    → commandFrom (houseInB h + unitInB u) c ≡ pick (eqb f 0) (On h u) (Off h u)
+unfolding commandFrom unitFrom
+from-switch h u c f hh hu hf is =
+    let s = switch-bits c (u / 4 % 2) (u / 2 % 2) (u % 2) f (bit (u / 4)) (bit (u / 2)) (bit u) hf is in
+    let low = s .low in
+    let high : (houseInB h + unitInB u) / 16 ≡ nibbleOf h = omega arith in
+    let eight : (houseInB h + unitInB u) / 4 % 2 ≡ u / 8 % 2 = omega arith in
+    simp (
+      ne-eqb c 136 (λ e. omega arith),
+      ne-eqb c 152 (λ e. omega arith),
+      s .five,
+      high,
+      house-of-nibble h hh,
+      eight,
+      s .six,
+      s .three,
+      s .four,
+      digits u hu,
+    )
+
+from-step : (h : ℕ) → h < 16 → houseOf (houseInB h / 16) ≡ h
+from-step h l = let high : houseInB h / 16 ≡ nibbleOf h = omega arith in ap houseOf high ∙ house-of-nibble h l
+
+pub below : (n : ℕ) → leb n 15 ≡ true → n < 16
+below n t = omega (arith, leb-true n 15 t)
+
+pub both-below : (h u : ℕ) → (leb h 15 && leb u 15) ≡ true → (h < 16) × (u < 16)
+both-below h u t = let p = and-eq-true-iff (leb h 15) (leb u 15) .0 t in (below h (p .0), below u (p .1))
+
+command-from : (k : RadioCommand) → commandOk k ≡ true → commandFrom (byteB k) (byteC k) ≡ k
+unfolding commandFrom
+command-from (On h u) t = let p = both-below h u t in from-switch h u (unitInC u) 0 (p .0) (p .1) (omega arith) (omega arith)
+command-from (Off h u) t = let p = both-below h u t in from-switch h u (unitInC u + 32) 1 (p .0) (p .1) (omega arith) (omega arith)
+command-from (Bright h) t = ap Bright (from-step h (below h t))
+command-from (Dim h) t = ap Dim (from-step h (below h t))
+
+pub bytes-one-to-one : (j k : RadioCommand) → commandOk j ≡ true → commandOk k ≡ true → byteB j ≡ byteB k → byteC j ≡ byteC k → j ≡ k
+bytes-one-to-one j k tj tk eb ec = sym (command-from j tj) ∙ ap₂ commandFrom eb ec ∙ command-from k tk

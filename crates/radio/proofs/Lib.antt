@@ -1,0 +1,5 @@
+pub mod CodeLaws
+pub mod CommandLaws
+pub mod ReaderLaws
+pub mod AnswerLaws
+pub mod Theorems

@@ -1,0 +1,88 @@
+-- Laws for the reader: which b and c a command has, and that the numbers taken out of b and c make them again.
+use mathlib.Core.Path.{_≡_, refl, sym, ap, _∙_}
+use mathlib.Core.Bool.{true, _&&_}
+use mathlib.Core.List.{[], _∷_}
+use mathlib.Core.Logic.{_⊎_, inl, inr}
+use Prim.Native.Nat.{ℕ, _+_, _*_, _/_, _%_, _^_, _≤_, _<_}
+use native.Mathlib.Omega.{arith}
+use borrow.Author.Tests.{le-leb}
+use lib.Dec.{leb}
+use Rattle.radio.specs.Codes.{nibbleOf, houseOf, houseInB, unitInB, unitInC, byteB, byteC}
+use Rattle.message.specs.Numbers.{CODE}
+use Rattle.radio.specs.Answers.{given, refused, codeAnswer}
+use Rattle.radio.specs.declared.RadioCommand.{RadioCommand}
+use Rattle.radio.specs.declared.RadioCommand.the-variants.{On, Off, Bright, Dim}
+use Rattle.radio.proofs.CodeLaws.{nibble-of-house, house-below, bit, Bits, bits, digits, unitFrom}
+use Rattle.radio.proofs.CommandLaws.{code-given, code-refused}
+
+-- ---- the house and the unit taken out of b and c
+
+house-again : (b : ℕ) → b < 256 → houseInB (houseOf (b / 16)) ≡ b / 16 * 16
+house-again b l = ap (λ (n : ℕ). n * 16) (nibble-of-house (b / 16) (omega arith))
+
+house-fits : (b : ℕ) → b < 256 → leb (houseOf (b / 16)) 15 ≡ true
+house-fits b l = le-leb (houseOf (b / 16)) 15 (omega (arith, house-below (b / 16) (omega arith)))
+
+-- c from its four bits, as it is from the bits of c / 8
+weigh : (c q f o t : ℕ) → c % 8 ≡ 0 → q * 8 + f * 4 + o * 2 + t ≡ c / 8 → q * 64 + t * 8 + o * 16 + f * 32 ≡ c
+weigh c q f o t z d = omega arith
+
+bits-again : (c : ℕ) → c < 128 → c % 8 ≡ 0 → c / 64 % 2 * 64 + c / 8 % 2 * 8 + c / 16 % 2 * 16 + c / 32 % 2 * 32 ≡ c
+bits-again c l z =
+    let e₆ : c / 8 / 8 ≡ c / 64 = omega arith in
+    let e₅ : c / 8 / 4 ≡ c / 32 = omega arith in
+    let e₄ : c / 8 / 2 ≡ c / 16 = omega arith in
+    weigh c (c / 64 % 2) (c / 32 % 2) (c / 16 % 2) (c / 8 % 2) z (simp (e₆, e₅, e₄) at (digits (c / 8) (omega arith)))
+
+module _ (b c : ℕ) where
+  unit-bits : Bits (unitFrom b c) (b / 4 % 2) (c / 64 % 2) (c / 8 % 2) (c / 16 % 2)
+  unfolding unitFrom
+  unit-bits = bits (unitFrom b c) (b / 4 % 2) (c / 64 % 2) (c / 8 % 2) (c / 16 % 2) (bit (b / 4)) (bit (c / 64)) (bit (c / 8)) (bit (c / 16)) refl
+
+  unit-again : c < 128 → c % 8 ≡ 0 → unitInC (unitFrom b c) + c / 32 % 2 * 32 ≡ c
+  unit-again l z = simp (unit-bits .four, unit-bits .two, unit-bits .one) (bits-again c l z)
+
+-- ---- what the definition gives, by the tests that the reader makes
+
+module _ (b c : ℕ) (small : b < 256) where
+  pub bright-read : b % 16 ≡ 0 → c ≡ 136 → codeAnswer b c ≡ given (Bright (houseOf (b / 16)) ∷ [])
+  bright-read z e = code-given b c (Bright (houseOf (b / 16))) (house-fits b small) (omega (arith, house-again b small)) (sym e)
+
+  pub dim-read : b % 16 ≡ 0 → c ≡ 152 → codeAnswer b c ≡ given (Dim (houseOf (b / 16)) ∷ [])
+  dim-read z e = code-given b c (Dim (houseOf (b / 16))) (house-fits b small) (omega (arith, house-again b small)) (sym e)
+
+  module _ (low : c < 128) (pb : b % 16 ≡ b / 4 % 2 * 4) (pc : c % 8 ≡ 0) where
+    fits : (leb (houseOf (b / 16)) 15 && leb (unitFrom b c) 15) ≡ true
+    fits = simp (house-fits b small, le-leb (unitFrom b c) 15 (unit-bits b c .small))
+
+    b-again : houseInB (houseOf (b / 16)) + unitInB (unitFrom b c) ≡ b
+    b-again = simp (house-again b small, unit-bits b c .eight) (omega arith)
+
+    pub on-read : c / 32 % 2 ≡ 0 → codeAnswer b c ≡ given (On (houseOf (b / 16)) (unitFrom b c) ∷ [])
+    on-read z =
+        code-given b c (On (houseOf (b / 16)) (unitFrom b c)) fits b-again
+        (omega (arith, unit-again b c low pc))
+
+    pub off-read : (c / 32 % 2 ≡ 0 → ⊥) → codeAnswer b c ≡ given (Off (houseOf (b / 16)) (unitFrom b c) ∷ [])
+    off-read z =
+        code-given b c (Off (houseOf (b / 16)) (unitFrom b c)) fits b-again
+        (omega (arith, unit-again b c low pc))
+
+module _ (b c : ℕ) where
+  pub no-step : 127 < c → (b % 16 ≡ 0 → (c ≡ 136) ⊎ (c ≡ 152) → ⊥) → codeAnswer b c ≡ refused CODE
+  no-step l never = code-refused b c (λ k ok eb ec. go k eb ec)
+    where
+      go : (k : RadioCommand) → byteB k ≡ b → byteC k ≡ c → ⊥
+      go (On h u) eb ec = omega arith
+      go (Off h u) eb ec = omega arith
+      go (Bright h) eb ec = never (omega arith) (inl (sym ec))
+      go (Dim h) eb ec = never (omega arith) (inr (sym ec))
+
+  pub no-switch : c < 128 → (b % 16 ≡ b / 4 % 2 * 4 → c % 8 ≡ 0 → ⊥) → codeAnswer b c ≡ refused CODE
+  no-switch l never = code-refused b c (λ k ok eb ec. go k eb ec)
+    where
+      go : (k : RadioCommand) → byteB k ≡ b → byteC k ≡ c → ⊥
+      go (On h u) eb ec = never (omega arith) (omega arith)
+      go (Off h u) eb ec = never (omega arith) (omega arith)
+      go (Bright h) eb ec = omega arith
+      go (Dim h) eb ec = omega arith

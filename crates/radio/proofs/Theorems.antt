@@ -1,0 +1,45 @@
+-- What holds of radio bytes as a whole (01, 'Radio bytes'), said of the definitions in the contracts of `write`, `read` and `messages`.
+use mathlib.Core.Path.{_≡_, refl, sym, ap, _∙_}
+use mathlib.Core.Bool.{Bool, true, false}
+use mathlib.Core.List.{List, [], _∷_, List·Memᴰ, List·Memᴰ·not-nil, head-eq-of-cons-eq}
+use Prim.Native.Nat.{ℕ, _<_}
+use lib.ListN.{length, getD}
+use Rattle.message.specs.Numbers.{NONE}
+use Rattle.message.specs.Messages.{messageOk}
+use Rattle.message.specs.declared.Message.{Message}
+use Rattle.radio.specs.Codes.{commandOk, codes}
+use Rattle.radio.specs.Answers.{given, writeAnswer, readAnswer, messagesOf, messagesAnswer}
+use Rattle.radio.specs.declared.RadioCommand.{RadioCommand}
+use Rattle.radio.proofs.CommandLaws.{every-mem}
+use Rattle.radio.proofs.AnswerLaws.{write-given, written-ok, read-given, accepted, codes-count, codes-one-to-one, codes-read, codes-only, all-valid}
+
+-- Reading what was written gives the command back: where the writer gives bytes for a command, the reader gives it for them.
+pub read-of-written : (k : RadioCommand) (code : List ℕ) → writeAnswer k ≡ given code → readAnswer code ≡ given (k ∷ [])
+read-of-written k code e = let w = written-ok k code e in ap readAnswer (sym (w .1)) ∙ read-given k (w .0)
+
+-- Writing what was read gives the four bytes back: where the reader gives a command for bytes, the writer gives them for it.
+pub written-of-read : (k : RadioCommand) (code : List ℕ) → readAnswer code ≡ given (k ∷ []) → writeAnswer k ≡ given code
+written-of-read k code e =
+    let r = accepted code (ap (λ a. a .number) e) in
+    let again : given (r .command ∷ []) ≡ given (k ∷ []) = sym (read-given (r .command) (r .ok)) ∙ ap readAnswer (r .bytes) ∙ e in
+    let same = head-eq-of-cons-eq (ap (λ a. a .values) again) in
+    ap writeAnswer (sym same) ∙ write-given (r .command) (r .ok) ∙ ap given (r .bytes)
+
+-- "There are 544 codes": of all lists of bytes, those that the reader does not refuse are the 544 of one list, which has none twice.
+pub record Exactly544 : Type 0 where
+  pub as-many : length codes ≡ 544
+  pub none-twice : (i j : ℕ) → i < 544 → j < 544 → getD codes i [] ≡ getD codes j [] → i ≡ j
+  pub each-read : (code : List ℕ) → List·Memᴰ code codes → readAnswer code .number ≡ NONE
+  pub no-other : (code : List ℕ) → readAnswer code .number ≡ NONE → List·Memᴰ code codes
+
+pub exactly-544 : Exactly544
+exactly-544 = record { as-many = codes-count; none-twice = codes-one-to-one; each-read = codes-read; no-other = codes-only }
+
+-- What a command means is valid: each message that is given for it, whatever the command.
+pub messages-valid : (k : RadioCommand) (m : Message) → List·Memᴰ m (messagesAnswer k .values) → messageOk m ≡ true
+unfolding messagesAnswer
+messages-valid k m i = go (commandOk k) refl
+  where
+    go : (t : Bool) → commandOk k ≡ t → messageOk m ≡ true
+    go true t = every-mem messageOk (messagesOf k) 0 (all-valid k t) (simp t at i)
+    go false t = absurd (List·Memᴰ·not-nil (simp t at i))

@@ -1,0 +1,73 @@
+-- Radio commands and their four bytes (01, 'Radio bytes').
+use Prim.Native.Nat.{ℕ, _+_, _-_, _*_, _/_, _%_, _^_}
+use mathlib.Core.Bool.{Bool, _&&_}
+use mathlib.Core.List.{List, [], _∷_, _++_, flatMap, map}
+use lib.Dec.{eqb, leb}
+use lib.ListN.{getD}
+use Rattle.message.specs.Codes.{placeIn}
+use Rattle.radio.specs.declared.RadioCommand.{RadioCommand}
+use Rattle.radio.specs.declared.RadioCommand.the-variants.{On, Off, Bright, Dim}
+
+-- "High four bits of b, houses A to P"
+unfoldable pub houseNibbles : List ℕ
+houseNibbles = 6 ∷ 7 ∷ 4 ∷ 5 ∷ 8 ∷ 9 ∷ 10 ∷ 11 ∷ 14 ∷ 15 ∷ 12 ∷ 13 ∷ 0 ∷ 1 ∷ 2 ∷ 3 ∷ []
+
+-- the four bits of a house, and the house that has four bits
+unfoldable pub nibbleOf : ℕ → ℕ
+nibbleOf h = getD houseNibbles h 0
+
+unfoldable pub houseOf : ℕ → ℕ
+houseOf n = placeIn eqb n houseNibbles
+
+abbrev pub houseInB : ℕ → ℕ
+houseInB h = nibbleOf h * 2 ^ 4
+
+-- "For a unit number u (0 to 15): its 8 is b's bit 2; its 4, 2, 1 are c's bits 6, 3, 4."
+abbrev pub unitInB : ℕ → ℕ
+unitInB u = u / 8 % 2 * 2 ^ 2
+
+abbrev pub unitInC : ℕ → ℕ
+unitInC u = u / 4 % 2 * 2 ^ 6 + u / 2 % 2 * 2 ^ 3 + u % 2 * 2 ^ 4
+
+-- b: the house and the unit's part; of bright and dim "b's bit 2 clear". "All other bits are 0."
+abbrev pub byteB : RadioCommand → ℕ
+byteB (On h u) = houseInB h + unitInB u
+byteB (Off h u) = houseInB h + unitInB u
+byteB (Bright h) = houseInB h
+byteB (Dim h) = houseInB h
+
+-- c: "Off sets c's bit 5. Bright is c = 136, dim c = 152"
+abbrev pub byteC : RadioCommand → ℕ
+byteC (On h u) = unitInC u
+byteC (Off h u) = unitInC u + 2 ^ 5
+byteC (Bright h) = 136
+byteC (Dim h) = 152
+
+-- "Four bytes: b, 255-b, c, 255-c."
+abbrev pub fourBytes : RadioCommand → List ℕ
+fourBytes k = byteB k ∷ (255 - byteB k) ∷ byteC k ∷ (255 - byteC k) ∷ []
+
+-- houses and units are 0 to 15
+abbrev pub commandOk : RadioCommand → Bool
+commandOk (On h u) = leb h 15 && leb u 15
+commandOk (Off h u) = leb h 15 && leb u 15
+commandOk (Bright h) = leb h 15
+commandOk (Dim h) = leb h 15
+
+-- the numbers of the houses, and of the units
+unfoldable pub sixteen : List ℕ
+sixteen = 0 ∷ 1 ∷ 2 ∷ 3 ∷ 4 ∷ 5 ∷ 6 ∷ 7 ∷ 8 ∷ 9 ∷ 10 ∷ 11 ∷ 12 ∷ 13 ∷ 14 ∷ 15 ∷ []
+
+-- the commands of a house: on and off for each unit, bright and dim
+abbrev pub switchesOf : ℕ → ℕ → List RadioCommand
+switchesOf h u = On h u ∷ Off h u ∷ []
+
+unfoldable pub commandsOf : ℕ → List RadioCommand
+commandsOf h = flatMap (switchesOf h) sixteen ++ (Bright h ∷ Dim h ∷ [])
+
+-- "There are 544 codes": all commands, house after house, and their codes
+unfoldable pub commands : List RadioCommand
+commands = flatMap commandsOf sixteen
+
+unfoldable pub codes : List (List ℕ)
+codes = map fourBytes commands

@@ -1,0 +1,246 @@
+// Radio bytes: the four bytes of a radio command, the command that four bytes name, and the messages that it means.
+use message::Function;
+use message::Message;
+ghost use mathlib.Core.Path.{_≡_};
+ghost use Prim.Native.Nat.{_+_, _<_};
+ghost use Rattle.radio.specs.Codes.{nibbleOf, houseOf, commandOk, houseInB, unitInB, unitInC, byteB, byteC};
+ghost use Rattle.radio.specs.Answers.{given, answerOfWrite, writeAnswer, answerOfRead, readAnswer, codeAnswer, answerOfMessages, messagesOf, messagesAnswer};
+
+// What a transmitter sends. Houses A to P and units 1 to 16 are the numbers 0 to 15; a command with a house or a unit above
+// 15 is a value that routines refuse.
+pub enum RadioCommand {
+    On { house: u8, unit: u8 },
+    Off { house: u8, unit: u8 },
+    Bright { house: u8 },
+    Dim { house: u8 },
+}
+
+// What the writer answers.
+pub enum RadioBytes {
+    // The four bytes, in the order in which they are sent.
+    Bytes(u8, u8, u8, u8),
+    // A house or unit above 15.
+    RefusedMessage,
+}
+
+// What the reader answers.
+pub enum RadioRead {
+    Command(RadioCommand),
+    // Not four bytes.
+    RefusedLength,
+    // The second byte is not the first one's complement, or the fourth not the third one's.
+    RefusedComplement,
+    // No command has these bytes.
+    RefusedCode,
+}
+
+// The messages that a command means, in order.
+pub enum RadioMessages {
+    Two(Message, Message),
+    One(Message),
+    // A house or unit above 15.
+    RefusedMessage,
+}
+
+// The high four bits of b for each house.
+const HOUSE_NIBBLES: [u8; 16] = [6, 7, 4, 5, 8, 9, 10, 11, 14, 15, 12, 13, 0, 1, 2, 3];
+
+// The house of each four bits.
+const NIBBLE_HOUSES: [u8; 16] = [12, 13, 14, 15, 2, 3, 0, 1, 4, 5, 6, 7, 10, 11, 8, 9];
+
+// The high four bits of b for a house, and 0 for a number above 15.
+fn nibble_of(house: u8) -> u8
+    ensures { λ r. ⌜ r ≡ nibbleOf house ⌝ }
+{
+    let n = house as usize;
+    if n < 16 { HOUSE_NIBBLES[n] } else { 0 }
+}
+
+// The house that has these high four bits of b.
+fn house_of(nibble: u8) -> u8
+    requires { ⌜ nibble < 16 ⌝ }
+    ensures { λ r. ⌜ r ≡ houseOf nibble ⌝ }
+{
+    let n = nibble as usize;
+    NIBBLE_HOUSES[n]
+}
+
+// Whether the house and the unit are 0 to 15.
+fn valid(command: RadioCommand) -> bool
+    ensures { λ r. ⌜ r ≡ commandOk command ⌝ }
+{
+    match command {
+        RadioCommand::On { house, unit } => (house <= 15) & (unit <= 15),
+        RadioCommand::Off { house, unit } => (house <= 15) & (unit <= 15),
+        RadioCommand::Bright { house } => house <= 15,
+        RadioCommand::Dim { house } => house <= 15,
+    }
+}
+
+// The house in b's high four bits, and the unit's 8 in bit 2.
+fn house_and_eight(house: u8, unit: u8) -> u8
+    ensures { λ r. ⌜ r ≡ houseInB house + unitInB unit ⌝ }
+{
+    nibble_of(house) * 16 + unit / 8 % 2 * 4
+}
+
+// The unit's 4, 2 and 1 in bits 6, 3 and 4 of c.
+fn four_two_one(unit: u8) -> u8
+    ensures { λ r. ⌜ r ≡ unitInC unit ⌝ }
+{
+    unit / 4 % 2 * 64 + unit / 2 % 2 * 8 + unit % 2 * 16
+}
+
+fn byte_b(command: RadioCommand) -> u8
+    ensures { λ r. ⌜ r ≡ byteB command ⌝ }
+{
+    match command {
+        RadioCommand::On { house, unit } => house_and_eight(house, unit),
+        RadioCommand::Off { house, unit } => house_and_eight(house, unit),
+        RadioCommand::Bright { house } => house_and_eight(house, 0),
+        RadioCommand::Dim { house } => house_and_eight(house, 0),
+    }
+}
+
+fn byte_c(command: RadioCommand) -> u8
+    ensures { λ r. ⌜ r ≡ byteC command ⌝ }
+{
+    match command {
+        RadioCommand::On { house: _, unit } => four_two_one(unit),
+        RadioCommand::Off { house: _, unit } => four_two_one(unit) + 32,
+        RadioCommand::Bright { house: _ } => 136,
+        RadioCommand::Dim { house: _ } => 152,
+    }
+}
+
+// The four bytes of a command.
+pub fn write(command: RadioCommand) -> RadioBytes
+    ensures { λ r. ⌜ answerOfWrite r ≡ writeAnswer command ⌝ }
+{
+    if !valid(command) {
+        return RadioBytes::RefusedMessage;
+    }
+    let b = byte_b(command);
+    let c = byte_c(command);
+    RadioBytes::Bytes(b, 255 - b, c, 255 - c)
+}
+
+// The bright or dim that b and a c of 128 or more name.
+fn step_of(b: u8, c: u8) -> RadioRead
+    requires { ⌜ 127 < c ⌝ }
+    ensures { λ r. ⌜ answerOfRead r ≡ codeAnswer b c ⌝ }
+{
+    if b % 16 != 0 {
+        return RadioRead::RefusedCode;
+    }
+    let house = house_of(b / 16);
+    if c == 136 {
+        return RadioRead::Command(RadioCommand::Bright { house: house });
+    }
+    if c == 152 {
+        return RadioRead::Command(RadioCommand::Dim { house: house });
+    }
+    RadioRead::RefusedCode
+}
+
+// The on or off that b and a c below 128 name. Bits 3, 1 and 0 of b and bits 2, 1 and 0 of c must be 0.
+fn switch_of(b: u8, c: u8) -> RadioRead
+    requires { ⌜ c < 128 ⌝ }
+    ensures { λ r. ⌜ answerOfRead r ≡ codeAnswer b c ⌝ }
+{
+    let eight = b / 4 % 2;
+    if b % 16 != eight * 4 {
+        return RadioRead::RefusedCode;
+    }
+    if c % 8 != 0 {
+        return RadioRead::RefusedCode;
+    }
+    let house = house_of(b / 16);
+    let unit = eight * 8 + c / 64 % 2 * 4 + c / 8 % 2 * 2 + c / 16 % 2;
+    if c / 32 % 2 == 0 {
+        RadioRead::Command(RadioCommand::On {
+            house: house,
+            unit: unit,
+        })
+    } else {
+        RadioRead::Command(RadioCommand::Off {
+            house: house,
+            unit: unit,
+        })
+    }
+}
+
+// The command that b and c name.
+fn command_of(b: u8, c: u8) -> RadioRead
+    ensures { λ r. ⌜ answerOfRead r ≡ codeAnswer b c ⌝ }
+{
+    if c < 128 {
+        switch_of(b, c)
+    } else {
+        step_of(b, c)
+    }
+}
+
+// The command that four bytes name.
+pub fn read(code: &[u8]) -> RadioRead
+    ensures { λ r. ⌜ answerOfRead r ≡ readAnswer (now (code .entry)) ⌝ }
+{
+    if code.len() != 4 {
+        return RadioRead::RefusedLength;
+    }
+    let b = code[0];
+    let c = code[2];
+    if code[1] != 255 - b {
+        return RadioRead::RefusedComplement;
+    }
+    if code[3] != 255 - c {
+        return RadioRead::RefusedComplement;
+    }
+    command_of(b, c)
+}
+
+// The messages of a command: an address and then on or off; or bright or dim alone.
+fn meaning(command: RadioCommand) -> RadioMessages
+    ensures { λ r. ⌜ answerOfMessages r ≡ given (messagesOf command) ⌝ }
+{
+    match command {
+        RadioCommand::On { house, unit } => RadioMessages::Two(
+            Message::Address {
+                house: house,
+                unit: unit,
+            },
+            Message::Function {
+                house: house,
+                function: Function::On,
+            },
+        ),
+        RadioCommand::Off { house, unit } => RadioMessages::Two(
+            Message::Address {
+                house: house,
+                unit: unit,
+            },
+            Message::Function {
+                house: house,
+                function: Function::Off,
+            },
+        ),
+        RadioCommand::Bright { house } => RadioMessages::One(Message::Function {
+            house: house,
+            function: Function::Bright,
+        }),
+        RadioCommand::Dim { house } => RadioMessages::One(Message::Function {
+            house: house,
+            function: Function::Dim,
+        }),
+    }
+}
+
+// What a command means, as messages on the mains.
+pub fn messages(command: RadioCommand) -> RadioMessages
+    ensures { λ r. ⌜ answerOfMessages r ≡ messagesAnswer command ⌝ }
+{
+    if !valid(command) {
+        return RadioMessages::RefusedMessage;
+    }
+    meaning(command)
+}
