@@ -109,3 +109,20 @@ takesOf r h = pick (eqb (r .at) 0) (huntOf (r .past) h) (pick (leb (r .at) 4) (a
 -- one call: "the lowest number that applies", the receiver then as it was
 unfoldable pub stepOf : Receiver → ℕ → Heard
 stepOf r h = pick (leb h 1) (pick (receiverOk r) (takesOf r h) (says RefusedState r)) (says RefusedHalf r)
+
+-- ---- the number of a call
+
+-- "An equal pair": the half-cycle is a pair's second, and is what the first was
+abbrev pub equalPair : Receiver → ℕ → Bool
+equalPair r h = leb 5 (r .at) && (eqb (r .at % 2) 0 && eqb (r .past % 2) h)
+
+-- "A ninth pair that completes code 10, 11 or 12 with function bit 1": 1 and now 0, after the four bits of the code
+abbrev pub unsupportedCode : Receiver → ℕ → Bool
+unsupportedCode r h = eqb (r .at) 22 && ((eqb (r .past % 2) 1 && eqb h 0) && (leb 10 (r .bits % 16) && leb (r .bits % 16) 12))
+
+-- 01's number: 5 HALF, 6 STATE, then the events 10 PAIR and 11 UNSUPPORTED, and 0 for all else
+unfoldable pub stepNumber : Receiver → ℕ → ℕ
+stepNumber r h =
+    pick (leb h 1)
+    (pick (receiverOk r) (pick (equalPair r h) PAIR (pick (unsupportedCode r h) UNSUPPORTED NONE)) STATE)
+    HALF

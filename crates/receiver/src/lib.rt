@@ -1,5 +1,18 @@
 // The receiver: reads the mains back, one call per half-cycle.
 use message::Message;
+use message::Reading;
+use message::valid;
+use message::word::bit_count;
+use message::word::read_extended;
+use message::word::read_standard;
+use message::word::word_of;
+ghost use mathlib.Core.Path.{_≡_};
+ghost use Prim.Native.Nat.{_≤_};
+ghost use lib.Dec.{eqb, leb};
+ghost use Rattle.message.specs.Choice.{pick};
+ghost use Rattle.message.specs.Words.{standardOf, extendedOf};
+ghost use Rattle.message.specs.declared.Reading.the-variants.{Whole, Extended};
+ghost use Rattle.receiver.specs.Receivers.{eventNumber, freshReceiver, pairsOk, givenOk, receiverOk, shifted, hunting, says, huntOf, awaitOf, isRepeat, completeOf, pairOf, readOf, takesOf, stepOf, stepNumber};
 
 // The message given with the frame before, if it is its repeat that may come next.
 pub enum Given {
@@ -36,4 +49,244 @@ pub enum Event {
 pub struct Heard {
     pub event: Event,
     pub next: Receiver,
+}
+
+// A receiver that hunts and has received no half-cycle.
+pub fn fresh() -> Receiver
+    ensures { λ r. ⌜ r ≡ freshReceiver ⌝ }
+{
+    hunts(63)
+}
+
+// One half-cycle: what it says, and the receiver for the next. A half-cycle above 1, or a receiver in no state that it can be
+// in, is refused, and the receiver is then handed back as it was.
+pub fn step(r: Receiver, half: u8) -> Heard
+    ensures { λ o. ⌜ o ≡ stepOf r half ⌝ }
+    ensures { λ o. ⌜ eventNumber (o .event) ≡ stepNumber r half ⌝ }
+{
+    if half > 1 {
+        return saying(Event::RefusedHalf, r);
+    }
+    if !acceptable(r) {
+        return saying(Event::RefusedState, r);
+    }
+    takes(r, half)
+}
+
+// One half-cycle for the caller's own receiver, which is updated in place: the event that `step` gives.
+pub fn receive(r: &mut Receiver, half: u8) -> Event
+    ensures { λ e. ⌜ (e ≡ stepOf (now (r .entry)) half .event) × (now (r .exit) ≡ stepOf (now (r .entry)) half .next) ⌝ }
+{
+    let heard = step(*r, half);
+    *r = heard.next;
+    heard.event
+}
+
+fn saying(event: Event, next: Receiver) -> Heard
+    ensures { λ o. ⌜ o ≡ says event next ⌝ }
+{
+    Heard {
+        event: event,
+        next: next,
+    }
+}
+
+// A receiver that hunts.
+fn hunts(past: u8) -> Receiver
+    ensures { λ r. ⌜ r ≡ hunting past ⌝ }
+{
+    Receiver {
+        past: past,
+        at: 0,
+        bits: 0,
+        given: Given::No,
+    }
+}
+
+// Whether there are no more pairs than the frame has: past the ninth, only those of an extended frame.
+fn pairs_fit(at: u8, bits: u32) -> bool
+    ensures { λ b. ⌜ b ≡ pairsOk at bits ⌝ }
+{
+    if at <= 22 {
+        return true;
+    }
+    if at > 62 {
+        return false;
+    }
+    let further = (at - 23) / 2;
+    (bits >> further) % 32 == 15
+}
+
+fn given_valid(given: Given) -> bool
+    ensures { λ b. ⌜ b ≡ givenOk given ⌝ }
+{
+    match given {
+        Given::No => true,
+        Given::Yes(m) => valid(m),
+    }
+}
+
+// Whether a receiver is in a state that it can be in.
+fn acceptable(r: Receiver) -> bool
+    ensures { λ b. ⌜ b ≡ receiverOk r ⌝ }
+{
+    let given = r.given;
+    (r.past <= 63) & (pairs_fit(r.at, r.bits) & given_valid(given))
+}
+
+// The last six half-cycles with one more.
+fn shift(past: u8, half: u8) -> u8
+    requires { ⌜ half ≤ 1 ⌝ }
+    ensures { λ p. ⌜ p ≡ shifted past half ⌝ }
+{
+    past % 32 * 2 + half
+}
+
+// Hunting: a frame begins after 0 0 0 1 1 1 0, of which the last is this half-cycle.
+fn hunt(past: u8, half: u8) -> Heard
+    requires { ⌜ half ≤ 1 ⌝ }
+    ensures { λ o. ⌜ o ≡ huntOf past half ⌝ }
+{
+    let now = shift(past, half);
+    if (past == 7) & (half == 0) {
+        return saying(
+            Event::Nothing,
+            Receiver {
+                past: now,
+                at: 5,
+                bits: 0,
+                given: Given::No,
+            },
+        );
+    }
+    saying(Event::Nothing, hunts(now))
+}
+
+// What is awaited after a frame: 1 1 1 0.
+fn awaited(at: u8) -> u8
+    ensures { λ h. ⌜ h ≡ pick (leb at 3) 1 0 ⌝ }
+{
+    if at <= 3 { 1 } else { 0 }
+}
+
+// Awaiting the start of a second frame: the first half-cycle that differs is hunted with.
+fn awaits(r: Receiver, half: u8) -> Heard
+    requires { ⌜ (half ≤ 1) × (r .at ≤ 62) ⌝ }
+    ensures { λ o. ⌜ o ≡ awaitOf r half ⌝ }
+{
+    if half != awaited(r.at) {
+        return hunt(r.past, half);
+    }
+    let given = r.given;
+    saying(
+        Event::Nothing,
+        Receiver {
+            past: shift(r.past, half),
+            at: r.at + 1,
+            bits: 0,
+            given: given,
+        },
+    )
+}
+
+// Whether a message is the one just given.
+fn is_repeat(given: Given, m: Message) -> bool
+    ensures { λ b. ⌜ b ≡ isRepeat given m ⌝ }
+{
+    match given {
+        Given::No => false,
+        Given::Yes(g) => (bit_count(g) == bit_count(m)) & (word_of(g) == word_of(m)),
+    }
+}
+
+// A frame is complete.
+fn complete(given: Given, m: Message, past: u8) -> Heard
+    ensures { λ o. ⌜ o ≡ completeOf given m past ⌝ }
+{
+    if is_repeat(given, m) {
+        return saying(Event::Repeat, hunts(past));
+    }
+    saying(
+        Event::Message(m),
+        Receiver {
+            past: past,
+            at: 1,
+            bits: 0,
+            given: Given::Yes(m),
+        },
+    )
+}
+
+// What the bits say after the pair that this half-cycle completes: a whole message after the ninth pair or the twenty-ninth, and
+// otherwise that pairs are to follow.
+fn reading(at: u8, bits: u32) -> Reading
+    ensures { λ x. ⌜ x ≡ pick (eqb at 22) (standardOf bits) (pick (eqb at 62) (Whole (extendedOf bits)) Extended) ⌝ }
+{
+    if at == 22 {
+        return read_standard(bits);
+    }
+    if at == 62 {
+        return Reading::Whole(read_extended(bits));
+    }
+    Reading::Extended
+}
+
+// A pair of different half-cycles is complete.
+fn pair(r: Receiver, bits: u32, past: u8) -> Heard
+    requires { ⌜ r .at ≤ 62 ⌝ }
+    ensures { λ o. ⌜ o ≡ pairOf r bits past ⌝ }
+{
+    let given = r.given;
+    match reading(r.at, bits) {
+        Reading::Whole(m) => complete(given, m, past),
+        Reading::Extended => saying(
+            Event::Nothing,
+            Receiver {
+                past: past,
+                at: r.at + 1,
+                bits: bits,
+                given: given,
+            },
+        ),
+        Reading::Unsupported => saying(Event::BrokenUnsupported, hunts(past)),
+    }
+}
+
+// Reading pairs: the first half-cycle of a pair is kept, the second is compared with it.
+fn reads(r: Receiver, half: u8) -> Heard
+    requires { ⌜ (half ≤ 1) × (r .at ≤ 62) ⌝ }
+    ensures { λ o. ⌜ o ≡ readOf r half ⌝ }
+{
+    let past = shift(r.past, half);
+    let given = r.given;
+    if r.at % 2 == 1 {
+        return saying(
+            Event::Nothing,
+            Receiver {
+                past: past,
+                at: r.at + 1,
+                bits: r.bits,
+                given: given,
+            },
+        );
+    }
+    let first = r.past % 2;
+    if first == half {
+        return saying(Event::BrokenPair, hunts(past));
+    }
+    pair(r, r.bits % 268435456 * 2 + first as u32, past)
+}
+
+// A half-cycle of 0 or 1, in a state that can be.
+fn takes(r: Receiver, half: u8) -> Heard
+    requires { ⌜ (half ≤ 1) × (r .at ≤ 62) ⌝ }
+    ensures { λ o. ⌜ o ≡ takesOf r half ⌝ }
+{
+    if r.at == 0 {
+        return hunt(r.past, half);
+    }
+    if r.at <= 4 {
+        return awaits(r, half);
+    }
+    reads(r, half)
 }

@@ -1,0 +1,385 @@
+-- Laws of one call of the receiver.
+--
+--     Taken, taken    the ways in which a half-cycle is taken, each with what holds there
+--     at-below        a receiver that is not refused is at 62 at most
+--     step-number     the event's number is 01's number for the call
+--     stays-valid     a valid receiver stays valid, for every half-cycle
+--     gives-valid     every message that it gives is a valid one
+use mathlib.Core.Path.{_≡_, refl, sym, ap, subst, _∙_}
+use mathlib.Core.Bool.{Bool, true, false, _&&_, _||_, and-eq-true-iff}
+use Prim.Native.Nat.{ℕ, zero, suc, _+_, _-_, _*_, _/_, _%_, _^_, _≤_, _<_}
+use native.Mathlib.Omega.{arith}
+use native.Mathlib.Decide.{decLe, ℕ-discrete}
+use borrow.Author.Tests.{leb-true, eqb-true, le-leb, lt-leb, eq-eqb, ne-eqb}
+use lib.Dec.{leb, eqb, lit<, lit≤}
+use lib.Pow.{field, mod-mod-pow, shr-shr}
+use Rattle.message.specs.Choice.{pick}
+use Rattle.message.specs.Numbers.{NONE, HALF, STATE, PAIR, UNSUPPORTED}
+use Rattle.message.specs.Codes.{numberOf, meaningOf, meanings}
+use Rattle.message.specs.Messages.{messageOk}
+use Rattle.message.specs.Words.{functionReading, standardOf, extendedOf}
+use Rattle.message.specs.declared.Message.{Message}
+use Rattle.message.specs.declared.Message.the-variants.{Address}
+use Rattle.message.specs.declared.Meaning.{Meaning}
+use Rattle.message.specs.declared.Meaning.the-variants.{Function as Carries, Extended as Longer, Unsupported as Unknown}
+use Rattle.message.specs.declared.Reading.{Reading}
+use Rattle.message.specs.declared.Reading.the-variants.{Whole, Extended, Unsupported}
+use Rattle.message.proofs.Tables.{every-at}
+use Rattle.message.proofs.CodeLaws.{number-below, extended-meaning}
+use Rattle.receiver.specs.declared.Given.{Given}
+use Rattle.receiver.specs.declared.Given.the-variants.{No, Yes}
+use Rattle.receiver.specs.declared.Receiver.{Receiver}
+use Rattle.receiver.specs.declared.Event.{Event}
+use Rattle.receiver.specs.declared.Event.the-variants.{Nothing, Message as Gives, Repeat, BrokenPair, BrokenUnsupported, RefusedHalf, RefusedState}
+use Rattle.receiver.specs.declared.Heard.{Heard}
+use Rattle.receiver.specs.Receivers.{eventNumber, pairsOk, givenOk, receiverOk, shifted, hunting, says, huntOf, awaitOf, isRepeat, completeOf, ninthOf, pairOf, readOf, takesOf, stepOf, equalPair, unsupportedCode, stepNumber}
+
+-- ---- the ways in which a half-cycle is taken
+
+-- the bits with that of the pair which this half-cycle completes
+abbrev pub bitsAfter : Receiver → ℕ
+bitsAfter r = r .bits % 268435456 * 2 + r .past % 2
+
+pub data Taken (r : Receiver) (h : ℕ) : Heard → Type 0 where
+  hunted : r .at ≤ 4 → Taken r h (huntOf (r .past) h)
+  awaited : r .at ≤ 4 → Taken r h (says Nothing (record { past = shifted (r .past) h; at = r .at + 1; bits = 0; given = r .given }))
+  first : 5 ≤ r .at → r .at % 2 ≡ 1 → Taken r h (says Nothing (record { past = shifted (r .past) h; at = r .at + 1; bits = r .bits; given = r .given }))
+  equal : 5 ≤ r .at → r .at % 2 ≡ 0 → r .past % 2 ≡ h → Taken r h (says BrokenPair (hunting (shifted (r .past) h)))
+  ninth : r .at ≡ 22 → (r .past % 2 ≡ h → ⊥) → Taken r h (ninthOf (r .given) (standardOf (bitsAfter r)) (bitsAfter r) (shifted (r .past) h))
+  last : r .at ≡ 62 → (r .past % 2 ≡ h → ⊥) → Taken r h (completeOf (r .given) (extendedOf (bitsAfter r)) (shifted (r .past) h))
+  paired : 5 ≤ r .at → r .at % 2 ≡ 0 → (r .past % 2 ≡ h → ⊥) → (r .at ≡ 22 → ⊥) → (r .at ≡ 62 → ⊥)
+      → Taken r h (says Nothing (record { past = shifted (r .past) h; at = r .at + 1; bits = bitsAfter r; given = r .given }))
+
+module _ (r : Receiver) (h : ℕ) where
+  taken-await : r .at ≤ 4 → Taken r h (awaitOf r h)
+  unfolding awaitOf
+  taken-await a = go (ℕ-discrete h (pick (leb (r .at) 3) 1 0))
+    where
+      go : Dec (h ≡ pick (leb (r .at) 3) 1 0) → Taken r h (awaitOf r h)
+      go (yes e) = rw (eq-eqb h (pick (leb (r .at) 3) 1 0) e) (awaited a)
+      go (no n) = rw (ne-eqb h (pick (leb (r .at) 3) 1 0) n) (hunted a)
+
+  taken-pair : 5 ≤ r .at → r .at % 2 ≡ 0 → (r .past % 2 ≡ h → ⊥) → Taken r h (pairOf r (bitsAfter r) (shifted (r .past) h))
+  unfolding pairOf
+  taken-pair a even d = go (ℕ-discrete (r .at) 22) (ℕ-discrete (r .at) 62)
+    where
+      go : Dec (r .at ≡ 22) → Dec (r .at ≡ 62) → Taken r h (pairOf r (bitsAfter r) (shifted (r .past) h))
+      go (yes e) q = rw (eq-eqb (r .at) 22 e) (ninth e d)
+      go (no n) (yes e) = rw (ne-eqb (r .at) 22 n, eq-eqb (r .at) 62 e) (last e d)
+      go (no n) (no n′) = rw (ne-eqb (r .at) 22 n, ne-eqb (r .at) 62 n′) (paired a even d n n′)
+
+  taken-read : 5 ≤ r .at → Taken r h (readOf r h)
+  unfolding readOf
+  taken-read a = go (ℕ-discrete (r .at % 2) 1) (ℕ-discrete (r .past % 2) h)
+    where
+      go : Dec (r .at % 2 ≡ 1) → Dec (r .past % 2 ≡ h) → Taken r h (readOf r h)
+      go (yes e) q = rw (eq-eqb (r .at % 2) 1 e) (first a e)
+      go (no n) (yes e) = rw (ne-eqb (r .at % 2) 1 n, eq-eqb (r .past % 2) h e) (equal a (omega arith) e)
+      go (no n) (no d) = rw (ne-eqb (r .at % 2) 1 n, ne-eqb (r .past % 2) h d) (taken-pair a (omega arith) d)
+
+  pub taken : Taken r h (takesOf r h)
+  unfolding takesOf
+  taken = go (ℕ-discrete (r .at) 0) (decLe (r .at) 4)
+    where
+      go : Dec (r .at ≡ 0) → Dec (r .at ≤ 4) → Taken r h (takesOf r h)
+      go (yes e) q = rw (eq-eqb (r .at) 0 e) (hunted (omega arith))
+      go (no n) (yes a) = rw (ne-eqb (r .at) 0 n, le-leb (r .at) 4 a) (taken-await a)
+      go (no n) (no b) = let past : 4 < r .at = omega arith in rw (ne-eqb (r .at) 0 n, lt-leb (r .at) 4 past) (taken-read past)
+
+-- ---- the number of a call
+
+complete-number : (given : Given) (m : Message) (past : ℕ) → eventNumber (completeOf given m past .event) ≡ NONE
+unfolding completeOf
+complete-number given m past = go (isRepeat given m)
+  where
+    go : (b : Bool) → eventNumber (pick b (says Repeat (hunting past)) (says (Gives m) (record { past = past; at = 1; bits = 0; given = Yes m })) .event) ≡ NONE
+    go true = refl
+    go false = refl
+
+-- the number that a code's meaning makes of the ninth pair
+abbrev breakOf : Meaning → ℕ
+breakOf (Carries f) = NONE
+breakOf Longer = NONE
+breakOf Unknown = UNSUPPORTED
+
+abbrev ten-to-twelve : ℕ → ℕ
+ten-to-twelve c = pick (leb 10 c && leb c 12) UNSUPPORTED NONE
+
+break-of-code : (c : ℕ) → c < 16 → breakOf (meaningOf c) ≡ ten-to-twelve c
+unfolding meaningOf meanings
+break-of-code c low = eqb-true (breakOf (meaningOf c)) (ten-to-twelve c) (every-at (λ k x. eqb (breakOf x) (ten-to-twelve k)) meanings Unknown c refl low)
+
+function-number : (given : Given) (house : ℕ) (x : Meaning) (bits past : ℕ) → eventNumber (ninthOf given (functionReading house x) bits past .event) ≡ breakOf x
+function-number given house (Carries f) bits past = complete-number given _ past
+function-number given house Longer bits past = refl
+function-number given house Unknown bits past = refl
+
+zero-of : (h : ℕ) → h ≤ 1 → (h ≡ 1 → ⊥) → h ≡ 0
+zero-of h bit d = omega arith
+
+module _ (r : Receiver) (h : ℕ) (bit : h ≤ 1) where
+  abbrev number : ℕ
+  number = pick (equalPair r h) PAIR (pick (unsupportedCode r h) UNSUPPORTED NONE)
+
+  -- what stands for the number where the pair is complete and unequal
+  unequal : 5 ≤ r .at → r .at % 2 ≡ 0 → (r .past % 2 ≡ h → ⊥) → number ≡ pick (unsupportedCode r h) UNSUPPORTED NONE
+  unequal a even d = simp (le-leb 5 (r .at) a, eq-eqb (r .at % 2) 0 even, ne-eqb (r .past % 2) h d)
+
+  ninth-number : r .at ≡ 22 → (r .past % 2 ≡ h → ⊥) → eventNumber (ninthOf (r .given) (standardOf (bitsAfter r)) (bitsAfter r) (shifted (r .past) h) .event) ≡ number
+  unfolding standardOf
+  ninth-number e d = go (ℕ-discrete (r .past % 2) 0) ∙ sym (unequal (omega arith) (omega arith) d)
+    where
+      go : Dec (r .past % 2 ≡ 0) → eventNumber (ninthOf (r .given) (standardOf (bitsAfter r)) (bitsAfter r) (shifted (r .past) h) .event) ≡ pick (unsupportedCode r h) UNSUPPORTED NONE
+      go (yes z) =
+          let even : bitsAfter r % 2 ≡ 0 = omega arith in
+          simp (eq-eqb (bitsAfter r % 2) 0 even, complete-number, eq-eqb (r .at) 22 e, ne-eqb (r .past % 2) 1 (λ o. omega arith))
+      go (no n) =
+          let odd : bitsAfter r % 2 ≡ 0 → ⊥ = λ z. omega arith in
+          let one : r .past % 2 ≡ 1 = omega arith in
+          let off : h ≡ 0 = omega (arith, zero-of h bit (λ e. d (one ∙ sym e))) in
+          let code : bitsAfter r / 2 % 16 ≡ r .bits % 16 = omega arith in
+          simp (ne-eqb (bitsAfter r % 2) 0 odd, function-number, code, break-of-code (r .bits % 16) (omega arith), eq-eqb (r .at) 22 e, eq-eqb (r .past % 2) 1 one, eq-eqb h 0 off)
+
+  number-taken : {o : Heard} → Taken r h o → eventNumber (o .event) ≡ number
+  unfolding huntOf
+  number-taken (hunted a) = simp (lt-leb 5 (r .at) (omega arith), ne-eqb (r .at) 22 (λ e. omega arith))
+  number-taken (awaited a) = simp (lt-leb 5 (r .at) (omega arith), ne-eqb (r .at) 22 (λ e. omega arith))
+  number-taken (first a odd) = simp (le-leb 5 (r .at) a, ne-eqb (r .at % 2) 0 (λ e. omega arith), ne-eqb (r .at) 22 (λ e. omega arith))
+  number-taken (equal a even same) = simp (le-leb 5 (r .at) a, eq-eqb (r .at % 2) 0 even, eq-eqb (r .past % 2) h same)
+  number-taken (ninth e d) = ninth-number e d
+  number-taken (last e d) = complete-number _ _ _ ∙ sym (unequal (omega arith) (omega arith) d ∙ simp (ne-eqb (r .at) 22 (λ n. omega arith)))
+  number-taken (paired a even d n n′) = sym (unequal a even d ∙ simp (ne-eqb (r .at) 22 n))
+
+pub step-number : (r : Receiver) (h : ℕ) → eventNumber (stepOf r h .event) ≡ stepNumber r h
+unfolding stepOf stepNumber
+step-number r h = go (leb h 1) (receiverOk r) (leb-true h 1)
+  where
+    go : (a b : Bool) → (a ≡ true → h ≤ 1)
+        → eventNumber (pick a (pick b (takesOf r h) (says RefusedState r)) (says RefusedHalf r) .event)
+        ≡ pick a (pick b (pick (equalPair r h) PAIR (pick (unsupportedCode r h) UNSUPPORTED NONE)) STATE) HALF
+    go true true bit = number-taken r h (bit refl) (taken r h)
+    go true false bit = refl
+    go false b bit = refl
+
+-- ---- what makes a receiver valid
+
+low-pairs : (at bits : ℕ) → at ≤ 22 → pairsOk at bits ≡ true
+unfolding pairsOk
+low-pairs at bits low = simp (le-leb at 22 low)
+
+high-pairs : (at bits : ℕ) → 22 < at → at ≤ 62 → bits / 2 ^ ((at - 23) / 2) % 32 ≡ 15 → pairsOk at bits ≡ true
+unfolding pairsOk
+high-pairs at bits past low e = simp (lt-leb at 22 past, le-leb at 62 low, eq-eqb (bits / 2 ^ ((at - 23) / 2) % 32) 15 e)
+
+-- and back
+pub at-most : (at bits : ℕ) → pairsOk at bits ≡ true → at ≤ 62
+unfolding pairsOk
+at-most at bits t = go (decLe at 22)
+  where
+    go : Dec (at ≤ 22) → at ≤ 62
+    go (yes low) = omega arith
+    go (no past) =
+        let over : 22 < at = omega arith in
+        let t′ : (leb at 62 && eqb (bits / 2 ^ ((at - 23) / 2) % 32) 15) ≡ true = rw (lt-leb at 22 over) at t in
+        leb-true at 62 (and-eq-true-iff (leb at 62) (eqb (bits / 2 ^ ((at - 23) / 2) % 32) 15) .0 t′ .0)
+
+extended-code : (at bits : ℕ) → 22 < at → pairsOk at bits ≡ true → bits / 2 ^ ((at - 23) / 2) % 32 ≡ 15
+unfolding pairsOk
+extended-code at bits over t =
+    let t′ : (leb at 62 && eqb (bits / 2 ^ ((at - 23) / 2) % 32) 15) ≡ true = rw (lt-leb at 22 over) at t in
+    eqb-true (bits / 2 ^ ((at - 23) / 2) % 32) 15 (and-eq-true-iff (leb at 62) (eqb (bits / 2 ^ ((at - 23) / 2) % 32) 15) .0 t′ .1)
+
+pub valid-parts : (r : Receiver) → receiverOk r ≡ true → (pairsOk (r .at) (r .bits) ≡ true) × (givenOk (r .given) ≡ true)
+unfolding receiverOk
+valid-parts r t =
+    let rest = and-eq-true-iff (leb (r .past) 63) (pairsOk (r .at) (r .bits) && givenOk (r .given)) .0 t .1 in
+    and-eq-true-iff (pairsOk (r .at) (r .bits)) (givenOk (r .given)) .0 rest
+
+valid-of : (past at bits : ℕ) (given : Given) → past ≤ 63 → pairsOk at bits ≡ true → givenOk given ≡ true
+    → receiverOk (record { past = past; at = at; bits = bits; given = given }) ≡ true
+unfolding receiverOk
+valid-of past at bits given p q g = simp (le-leb past 63 p, q, g)
+
+pub at-below : (r : Receiver) → receiverOk r ≡ true → r .at ≤ 62
+at-below r t = at-most (r .at) (r .bits) (valid-parts r t .0)
+
+-- ---- the messages are valid
+
+-- a message that an event gives is valid
+abbrev givesOk : Event → Bool
+givesOk Nothing = true
+givesOk (Gives m) = messageOk m
+givesOk Repeat = true
+givesOk BrokenPair = true
+givesOk BrokenUnsupported = true
+givesOk RefusedHalf = true
+givesOk RefusedState = true
+
+-- so is a whole one that is read
+abbrev readsOk : Reading → Bool
+readsOk (Whole m) = messageOk m
+readsOk Extended = true
+readsOk Unsupported = true
+
+number-ok : (c : ℕ) → leb (numberOf (c % 16)) 15 ≡ true
+number-ok c = let low : c % 16 < 16 = omega arith in le-leb (numberOf (c % 16)) 15 (omega (arith, number-below (c % 16) low))
+
+function-ok : (c : ℕ) (x : Meaning) → readsOk (functionReading (numberOf (c % 16)) x) ≡ true
+function-ok c (Carries f) = number-ok c
+function-ok c Longer = refl
+function-ok c Unknown = refl
+
+standard-ok : (w : ℕ) → readsOk (standardOf w) ≡ true
+unfolding standardOf
+standard-ok w = go (eqb (w % 2) 0)
+  where
+    go : (b : Bool) → readsOk (pick b (Whole (Address (numberOf (w / 32 % 16)) (numberOf (w / 2 % 16)))) (functionReading (numberOf (w / 32 % 16)) (meaningOf (w / 2 % 16)))) ≡ true
+    go true = simp (number-ok (w / 32), number-ok (w / 2))
+    go false = function-ok (w / 32) (meaningOf (w / 2 % 16))
+
+extended-ok : (w : ℕ) → messageOk (extendedOf w) ≡ true
+extended-ok w = simp (number-ok (w / 33554432), number-ok (w / 65536))
+
+complete-gives : (given : Given) (m : Message) (past : ℕ) → messageOk m ≡ true → givesOk (completeOf given m past .event) ≡ true
+unfolding completeOf
+complete-gives given m past ok = go (isRepeat given m)
+  where
+    go : (b : Bool) → givesOk (pick b (says Repeat (hunting past)) (says (Gives m) (record { past = past; at = 1; bits = 0; given = Yes m })) .event) ≡ true
+    go true = refl
+    go false = ok
+
+ninth-gives : (given : Given) (x : Reading) (bits past : ℕ) → readsOk x ≡ true → givesOk (ninthOf given x bits past .event) ≡ true
+ninth-gives given (Whole m) bits past ok = complete-gives given m past ok
+ninth-gives given Extended bits past ok = refl
+ninth-gives given Unsupported bits past ok = refl
+
+module _ (r : Receiver) (h : ℕ) where
+  gives-taken : {o : Heard} → Taken r h o → givesOk (o .event) ≡ true
+  unfolding huntOf
+  gives-taken (hunted a) = refl
+  gives-taken (awaited a) = refl
+  gives-taken (first a odd) = refl
+  gives-taken (equal a even same) = refl
+  gives-taken (ninth e d) = ninth-gives (r .given) (standardOf (bitsAfter r)) (bitsAfter r) (shifted (r .past) h) (standard-ok (bitsAfter r))
+  gives-taken (last e d) = complete-gives _ _ _ (extended-ok (bitsAfter r))
+  gives-taken (paired a even d n n′) = refl
+
+  step-gives : givesOk (stepOf r h .event) ≡ true
+  unfolding stepOf
+  step-gives = go (leb h 1) (receiverOk r)
+    where
+      go : (a b : Bool) → givesOk (pick a (pick b (takesOf r h) (says RefusedState r)) (says RefusedHalf r) .event) ≡ true
+      go true true = gives-taken (taken r h)
+      go true false = refl
+      go false b = refl
+
+  -- every message that a receiver gives is a valid one
+  pub gives-valid : (m : Message) → stepOf r h .event ≡ Gives m → messageOk m ≡ true
+  gives-valid m e = ap givesOk (sym e) ∙ step-gives
+
+-- ---- a valid receiver stays valid
+
+complete-stays : (given : Given) (m : Message) (past : ℕ) → past ≤ 63 → messageOk m ≡ true → receiverOk (completeOf given m past .next) ≡ true
+unfolding completeOf
+complete-stays given m past p ok = go (isRepeat given m)
+  where
+    go : (b : Bool) → receiverOk (pick b (says Repeat (hunting past)) (says (Gives m) (record { past = past; at = 1; bits = 0; given = Yes m })) .next) ≡ true
+    go true = valid-of past 0 0 No p (low-pairs 0 0 (lit≤ tt)) refl
+    go false = valid-of past 1 0 (Yes m) p (low-pairs 1 0 (lit≤ tt)) ok
+
+hunt-stays : (past h : ℕ) → h ≤ 1 → receiverOk (huntOf past h .next) ≡ true
+unfolding huntOf
+hunt-stays past h bit = go (eqb past 7 && eqb h 0)
+  where
+    go : (b : Bool) → receiverOk (pick b (record { past = shifted past h; at = 5; bits = 0; given = No }) (hunting (shifted past h))) ≡ true
+    go true = valid-of (shifted past h) 5 0 No (omega arith) (low-pairs 5 0 (lit≤ tt)) refl
+    go false = valid-of (shifted past h) 0 0 No (omega arith) (low-pairs 0 0 (lit≤ tt)) refl
+
+longer-of : (house : ℕ) (x : Meaning) → functionReading house x ≡ Extended → x ≡ Longer
+longer-of house (Carries f) e = absurd (let z : _≡_ {A = ℕ} 0 1 = cc in omega arith)
+longer-of house Longer e = refl
+longer-of house Unknown e = absurd (let z : _≡_ {A = ℕ} 0 1 = cc in omega arith)
+
+-- only code 7 with function bit 1 begins an extended message
+begun-code : (w : ℕ) → standardOf w ≡ Extended → w % 32 ≡ 15
+unfolding standardOf
+begun-code w e = go (ℕ-discrete (w % 2) 0)
+  where
+    go : Dec (w % 2 ≡ 0) → w % 32 ≡ 15
+    go (yes z) =
+        let whole : Whole (Address (numberOf (w / 32 % 16)) (numberOf (w / 2 % 16))) ≡ Extended = rw (eq-eqb (w % 2) 0 z) at e in
+        absurd (let z : _≡_ {A = ℕ} 0 1 = cc in omega arith)
+    go (no n) =
+        let begun : functionReading (numberOf (w / 32 % 16)) (meaningOf (w / 2 % 16)) ≡ Extended = rw (ne-eqb (w % 2) 0 n) at e in
+        let seven : w / 2 % 16 ≡ 7 = extended-meaning (w / 2 % 16) (omega arith) (longer-of (numberOf (w / 32 % 16)) (meaningOf (w / 2 % 16)) begun) in
+        omega arith
+
+ninth-stays : (given : Given) (x : Reading) (bits past : ℕ) → past ≤ 63 → givenOk given ≡ true → readsOk x ≡ true → (x ≡ Extended → bits % 32 ≡ 15)
+    → receiverOk (ninthOf given x bits past .next) ≡ true
+ninth-stays given (Whole m) bits past p g ok code = complete-stays given m past p ok
+ninth-stays given Extended bits past p g ok code =
+    let e = code refl in
+    valid-of past 23 bits given p (high-pairs 23 bits (lit< tt) (lit≤ tt) (omega arith)) g
+ninth-stays given Unsupported bits past p g ok code = valid-of past 0 0 No p (low-pairs 0 0 (lit≤ tt)) refl
+
+-- one more bit below: the extended code stands one place higher
+code-moves : (bits b k : ℕ) → b < 2 → k ≤ 23 → (bits % 268435456 * 2 + b) / 2 ^ (1 + k) % 32 ≡ bits / 2 ^ k % 32
+code-moves bits b k hb hk =
+    let w = bits % 268435456 * 2 + b in
+    let half : w / 2 ≡ bits % 268435456 = omega arith in
+    let e : 23 - k + 5 + k ≡ 28 = omega arith in
+    ap (λ (n : ℕ). n % 32) (sym (shr-shr w 1 k) ∙ ap (λ (n : ℕ). n / 2 ^ k) half)
+    ∙ ap (λ (n : ℕ). bits % 2 ^ n / 2 ^ k % 32) (sym e)
+    ∙ ap (λ (n : ℕ). n % 32) (field bits (23 - k + 5) k)
+    ∙ mod-mod-pow (bits / 2 ^ k) (23 - k) 5
+
+module _ (r : Receiver) (h : ℕ) (bit : h ≤ 1) (ok : receiverOk r ≡ true) where
+  pairs : pairsOk (r .at) (r .bits) ≡ true
+  pairs = valid-parts r ok .0
+
+  given-ok : givenOk (r .given) ≡ true
+  given-ok = valid-parts r ok .1
+
+  kept : shifted (r .past) h ≤ 63
+  kept = omega arith
+
+  below : r .at ≤ 62
+  below = at-below r ok
+
+  first-pairs : r .at % 2 ≡ 1 → Dec (r .at ≤ 22) → pairsOk (r .at + 1) (r .bits) ≡ true
+  first-pairs odd (yes low) = low-pairs (r .at + 1) (r .bits) (omega arith)
+  first-pairs odd (no n) =
+      let over : 22 < r .at = omega arith in
+      let same : (r .at + 1 - 23) / 2 ≡ (r .at - 23) / 2 = omega arith in
+      high-pairs (r .at + 1) (r .bits) (omega arith) (omega (arith, below))
+      (ap (λ (k : ℕ). r .bits / 2 ^ k % 32) same ∙ extended-code (r .at) (r .bits) over pairs)
+
+  second-pairs : r .at % 2 ≡ 0 → (r .at ≡ 22 → ⊥) → (r .at ≡ 62 → ⊥) → Dec (r .at ≤ 22) → pairsOk (r .at + 1) (bitsAfter r) ≡ true
+  second-pairs even n n′ (yes low) = low-pairs (r .at + 1) (bitsAfter r) (omega arith)
+  second-pairs even n n′ (no m) =
+      let over : 22 < r .at = omega arith in
+      let more : (r .at + 1 - 23) / 2 ≡ 1 + (r .at - 23) / 2 = omega arith in
+      high-pairs (r .at + 1) (bitsAfter r) (omega arith) (omega (arith, below))
+      (ap (λ (k : ℕ). bitsAfter r / 2 ^ k % 32) more
+      ∙ code-moves (r .bits) (r .past % 2) ((r .at - 23) / 2) (omega arith) (omega (arith, below))
+      ∙ extended-code (r .at) (r .bits) over pairs)
+
+  stays-taken : {o : Heard} → Taken r h o → receiverOk (o .next) ≡ true
+  stays-taken (hunted a) = hunt-stays (r .past) h bit
+  stays-taken (awaited a) = valid-of (shifted (r .past) h) (r .at + 1) 0 (r .given) kept (low-pairs (r .at + 1) 0 (omega arith)) given-ok
+  stays-taken (first a odd) = valid-of (shifted (r .past) h) (r .at + 1) (r .bits) (r .given) kept (first-pairs odd (decLe (r .at) 22)) given-ok
+  stays-taken (equal a even same) = valid-of (shifted (r .past) h) 0 0 No kept (low-pairs 0 0 (lit≤ tt)) refl
+  stays-taken (ninth e d) =
+      ninth-stays (r .given) (standardOf (bitsAfter r)) (bitsAfter r) (shifted (r .past) h) kept given-ok (standard-ok (bitsAfter r)) (begun-code (bitsAfter r))
+  stays-taken (last e d) = complete-stays (r .given) (extendedOf (bitsAfter r)) (shifted (r .past) h) kept (extended-ok (bitsAfter r))
+  stays-taken (paired a even d n n′) =
+      valid-of (shifted (r .past) h) (r .at + 1) (bitsAfter r) (r .given) kept (second-pairs even n n′ (decLe (r .at) 22)) given-ok
+
+-- a valid receiver stays valid, for every half-cycle
+pub stays-valid : (r : Receiver) (h : ℕ) → receiverOk r ≡ true → receiverOk (stepOf r h .next) ≡ true
+unfolding stepOf
+stays-valid r h ok = go (leb h 1) (leb-true h 1)
+  where
+    go : (a : Bool) → (a ≡ true → h ≤ 1) → receiverOk (pick a (pick (receiverOk r) (takesOf r h) (says RefusedState r)) (says RefusedHalf r) .next) ≡ true
+    go true bit = rw ok (stays-taken r h (bit refl) ok (taken r h))
+    go false bit = ok

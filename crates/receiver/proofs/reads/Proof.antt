@@ -1,0 +1,63 @@
+-- `reads` meets its contract: whether the half-cycle is the first of a pair, and then whether it is what the first was, picks the
+-- case of `readOf`.
+use borrow.Author.Tests.{eq-eqb, ne-eqb}
+use Rattle.receiver.specs.Receivers.{readOf}
+use borrow.Author.Needs.{needs}
+use Rattle.receiver.proofs.reads.Statement.{statement}
+use Rattle.receiver.proofs.reads.Tie as tie
+
+shift-requires : tie.Need-shift-requires
+shift-requires c κs = search needs
+
+add-t9 : tie.Need-add-t9
+add-t9 c = search needs
+
+saying-requires : tie.Need-saying-requires
+saying-requires c κs = search needs
+
+returns : tie.Need-returns
+unfolding readOf
+returns c = simp (c .saying .ensures, c .before .before .before .before .shift .ensures, eq-eqb _ _ (c .before .before .if1 .taken))
+
+hunts-requires : tie.Need-hunts-requires
+hunts-requires c κs = search needs
+
+saying-requires-2 : tie.Need-saying-requires-2
+saying-requires-2 c κs = search needs
+
+returns-2 : tie.Need-returns-2
+unfolding readOf
+returns-2 c = simp (c .saying2 .ensures, c .before .hunts .ensures, c .before .before .before .before .before .before .shift .ensures, ne-eqb _ _ (c .before .before .before .before .if1 .left), eq-eqb _ _ (c .before .before .if2 .taken))
+
+mul-pair : tie.Need-mul-pair
+mul-pair c = search needs
+
+cast-pair : tie.Need-cast-pair
+cast-pair c = search needs
+
+add-pair : tie.Need-add-pair
+add-pair c = search needs
+
+pair-requires : tie.Need-pair-requires
+pair-requires c κs = search needs
+
+returns-3 : tie.Need-returns-3
+unfolding readOf
+returns-3 c = simp (c .pair .ensures, c .before .before .before .before .before .before .shift .ensures, ne-eqb _ _ (c .before .before .before .before .if1 .left), ne-eqb _ _ (c .before .before .if2 .left))
+
+pub reads-spec : {M : Type 1} → statement M
+reads-spec =
+    tie.close
+    (tie.spec
+    shift-requires
+    add-t9
+    saying-requires
+    returns
+    hunts-requires
+    saying-requires-2
+    returns-2
+    mul-pair
+    cast-pair
+    add-pair
+    pair-requires
+    returns-3)
