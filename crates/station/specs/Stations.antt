@@ -1,6 +1,7 @@
 -- The station (01, 'Station and bench', 'Numbers given back'): loading, what it sends, and one half-cycle of it.
 use Prim.Native.Nat.{ℕ, _+_}
-use mathlib.Core.Bool.{Bool, true, false, _&&_, _||_}
+use mathlib.Core.Bool.{Bool, true, false, _&&_, _||_, not}
+use mathlib.Core.List.{List, [], _∷_}
 use lib.Dec.{eqb, leb, ltb}
 use lib.ListN.{getD}
 use Rattle.message.specs.Choice.{pick}
@@ -8,6 +9,7 @@ use Rattle.message.specs.Numbers.{NONE, MESSAGE, HALF, STATE, DRAW, BUSY, FAULT
 use Rattle.message.specs.Messages.{messageOk}
 use Rattle.message.specs.declared.Message.{Message}
 use Rattle.burst.specs.Frames.{burstOf, burstLength}
+use Rattle.station.specs.Lowest.{Cause, cause, lowest}
 use Rattle.station.specs.declared.Held.{Held}
 use Rattle.station.specs.declared.Held.the-variants.{Empty, Holds}
 use Rattle.station.specs.declared.Station.{Station}
@@ -28,6 +30,15 @@ loadNumber load.RefusedMessage = MESSAGE
 loadNumber load.RefusedState = STATE
 loadNumber load.RefusedDraw = DRAW
 loadNumber load.RefusedBusy = BUSY
+
+-- the number, and the half-cycle sent: a refusal sends nothing
+pub record Sent : Type 0 where
+  pub number : ℕ
+  pub half : ℕ
+
+abbrev pub sentBy : SendAnswer → Sent
+sentBy (send.Sends h) = record { number = NONE; half = h }
+sentBy send.RefusedState = record { number = STATE; half = 0 }
 
 abbrev pub turnNumber : TurnAnswer → ℕ
 turnNumber turn.Going = NONE
@@ -80,6 +91,18 @@ loadOf s m draw =
     (record { answer = load.RefusedState; next = s }))
     (record { answer = load.RefusedMessage; next = s })
 
+-- the refusals of loading, and the number that it gives back
+abbrev pub loadCauses : Station → Message → ℕ → List Cause
+loadCauses s m draw =
+    cause (not (messageOk m)) MESSAGE
+    ∷ cause (not (stationOk s)) STATE
+    ∷ cause (not (drawOk draw)) DRAW
+    ∷ cause (not (isEmpty (s .held))) BUSY
+    ∷ []
+
+unfoldable pub loadRefusal : Station → Message → ℕ → ℕ
+loadRefusal s m draw = lowest (loadCauses s m draw)
+
 -- ---- what it sends
 
 -- "Once the count equals the wait it sends from the next half-cycle": the half-cycle of its burst at its place, else nothing, which is 0
@@ -92,6 +115,13 @@ sendsOf s = heldSends (s .held) (s .wait) (s .count) (s .place)
 
 unfoldable pub sendOf : Station → SendAnswer
 sendOf s = pick (stationOk s) (send.Sends (sendsOf s)) send.RefusedState
+
+-- the one refusal of asking for it, and what is given back
+abbrev pub sendCauses : Station → List Cause
+sendCauses s = cause (not (stationOk s)) STATE ∷ []
+
+unfoldable pub sentOf : Station → Sent
+sentOf s = record { number = lowest (sendCauses s); half = pick (stationOk s) (sendsOf s) 0 }
 
 -- ---- one half-cycle
 
@@ -132,6 +162,35 @@ turnOf s heard draw =
     (record { answer = turn.RefusedDraw; next = s }))
     (record { answer = turn.RefusedState; next = s }))
     (record { answer = turn.RefusedHalf; next = s })
+
+-- The same of a station that was judged before, by the half-cycle that it sent: for whoever judges all stations before it moves one.
+-- A station that nobody judged waits while its count is below its wait, and sends until its place is the last.
+abbrev pub sentOn : Message → ℕ → ℕ → ℕ → Turn
+sentOn m wait count place =
+    pick (ltb (place + 1) (burstLength m))
+    (record { answer = turn.Going; next = record { held = Holds m; wait = wait; count = count; place = place + 1 } })
+    (record { answer = turn.Done; next = emptyStation })
+
+abbrev pub judgedMoves : Held → Station → ℕ → ℕ → ℕ → Turn
+judgedMoves Empty s sent heard draw = record { answer = turn.Going; next = s }
+judgedMoves (Holds m) s sent heard draw =
+    pick (ltb (s .count) (s .wait)) (record { answer = turn.Going; next = waits m (s .wait) (s .count) heard draw })
+    (pick (eqb sent heard) (sentOn m (s .wait) (s .count) (s .place)) (record { answer = turn.Going; next = loaded m draw }))
+
+unfoldable pub movesOf : Station → ℕ → ℕ → ℕ → Turn
+movesOf s sent heard draw = judgedMoves (s .held) s sent heard draw
+
+-- the refusals of a half-cycle, FAULT: "sent 1, heard 0", and the number that it gives back
+abbrev pub turnCauses : Station → ℕ → ℕ → List Cause
+turnCauses s heard draw =
+    cause (not (leb heard 1)) HALF
+    ∷ cause (not (stationOk s)) STATE
+    ∷ cause (not (drawOk draw)) DRAW
+    ∷ cause (eqb (sendsOf s) 1 && eqb heard 0) FAULT
+    ∷ []
+
+unfoldable pub turnRefusal : Station → ℕ → ℕ → ℕ
+turnRefusal s heard draw = lowest (turnCauses s heard draw)
 
 -- the mark of a station that says DONE
 abbrev pub isDone : TurnAnswer → Bool

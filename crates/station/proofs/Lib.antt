@@ -1,0 +1,4 @@
+pub mod Judged
+pub mod HalfAt
+pub mod NumberLaws
+pub mod TurnLaws

@@ -1,0 +1,77 @@
+-- `advance` meets its contract: the tests are those of `turnOf`, in its order, and a judged station moves by what it sent.
+use mathlib.Core.Path.{sym, _∙_}
+use borrow.Author.Tests.{le-leb, lt-leb}
+use Rattle.station.specs.Stations.{turnOf}
+use Rattle.station.proofs.Judged.{bad, fine}
+use Rattle.station.proofs.NumberLaws.{turn-promise}
+use Rattle.station.proofs.TurnLaws.{sends-told, refused-told, moves-turn}
+use borrow.Author.Needs.{needs}
+use Rattle.station.proofs.advance.Statement.{statement}
+use Rattle.station.proofs.advance.Tie as tie
+
+returns : tie.Need-returns
+unfolding turnOf
+returns c =
+    let a = c .before .args in
+    turn-promise (a .s) (a .heard) (a .draw)
+    (rw (lt-leb (a .heard) 1 (c .if1 .taken)))
+
+sends-requires : tie.Need-sends-requires
+sends-requires c κs = search needs
+
+enum-told : tie.Need-enum-told
+enum-told c = search needs
+
+enum-known-sent : tie.Need-enum-known-sent
+enum-known-sent c = search needs
+
+draw-ok-requires : tie.Need-draw-ok-requires
+draw-ok-requires c κs = search needs
+
+returns-2 : tie.Need-returns-2
+unfolding turnOf
+returns-2 c =
+    let a = c .before .before .before .before .before .before .before .args in
+    let told = sends-told (a .s) (c .before .before .before .sent .given .0 .0) (sym (c .before .before .before .before .before .sends .ensures .0) ∙ c .before .before .before .sent .given .1) in
+    turn-promise (a .s) (a .heard) (a .draw)
+    (rw (le-leb (a .heard) 1 (c .before .before .before .before .before .before .if1 .left), told .0, bad (c .before .draw-ok .ensures) (c .if2 .taken)))
+
+returns-3 : tie.Need-returns-3
+unfolding turnOf
+returns-3 c =
+    let a = c .before .before .before .before .before .before .before .before .args in
+    let told = sends-told (a .s) (c .before .before .before .before .sent .given .0 .0) (sym (c .before .before .before .before .before .before .sends .ensures .0) ∙ c .before .before .before .before .sent .given .1) in
+    turn-promise (a .s) (a .heard) (a .draw)
+    (rw (le-leb (a .heard) 1 (c .before .before .before .before .before .before .before .if1 .left), told .0, fine (c .before .before .draw-ok .ensures) (c .before .if2 .left), told .1, lt-leb _ _ (c .if3 .taken)))
+
+moves-requires : tie.Need-moves-requires
+moves-requires c κs = search needs
+
+returns-4 : tie.Need-returns-4
+unfolding turnOf
+returns-4 c =
+    let a = c .before .before .before .before .args in
+    turn-promise (a .s) (a .heard) (a .draw)
+    (rw (le-leb (a .heard) 1 (c .before .before .before .if1 .left), refused-told (a .s) (sym (c .before .before .sends .ensures .0) ∙ c .enum-told .given .1)))
+
+returns-5 : tie.Need-returns-5
+returns-5 c =
+    let a = c .before .before .before .before .before .before .before .before .before .args in
+    let told = sends-told (a .s) (c .before .before .before .before .before .sent .given .0 .0) (sym (c .before .before .before .before .before .before .before .sends .ensures .0) ∙ c .before .before .before .before .before .sent .given .1) in
+    turn-promise (a .s) (a .heard) (a .draw)
+    (c .moves .ensures ∙ rw (← told .1) (moves-turn (a .s) (a .heard) (a .draw) (le-leb (a .heard) 1 (c .before .before .before .before .before .before .before .before .if1 .left)) (told .0) (fine (c .before .before .before .draw-ok .ensures) (c .before .before .if2 .left)) (rw (told .1) (le-leb _ _ (c .before .if3 .left)))))
+
+pub advance-spec : {M : Type 1} → statement M
+advance-spec =
+    tie.close
+    (tie.spec
+    returns
+    sends-requires
+    enum-told
+    enum-known-sent
+    draw-ok-requires
+    returns-2
+    returns-3
+    moves-requires
+    returns-4
+    returns-5)
