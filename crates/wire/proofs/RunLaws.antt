@@ -6,15 +6,19 @@
 --     turned                       one turn of a run: one step, and its event's bytes
 --     events-placed                the events' bytes at the buffer's front
 --     run-refused, run-done        what a run owes at each return
+--     ran, ran-short               what its answer tells whoever called it
 use mathlib.Core.Path.{_≡_, refl, sym, ap, ap₂, _∙_}
+use mathlib.Core.Bool.{Bool, true, false}
 use mathlib.Core.List.{List, [], _∷_, _++_, append-nil, flatMap}
 use Prim.Native.Nat.{ℕ, suc, _+_, _*_, _/_, _%_, _^_, _≤_, _<_}
 use native.Mathlib.Numerals.{add-one}
 use native.Mathlib.Nat.{add-zero, add-suc, suc-add}
 use native.Mathlib.Omega.{arith}
 use borrow.Author.Tests.{eq-eqb, le-leb, lt-leb}
+use lib.Dec.{leb}
 use lib.ListN.{length, getD, set, take, drop, length-append, drop-of-length-le}
 use lib.Seq.{sets, sets-eq, length-sets, drop-cons}
+use Rattle.message.specs.Choice.{pick}
 use Rattle.message.specs.declared.Message.{Message}
 use Rattle.message.specs.declared.Message.the-variants.{Address, Function as Command, Extended}
 use Rattle.receiver.specs.Receivers.{stepOf}
@@ -121,3 +125,22 @@ module _ (r : Receiver) (hs evs : List ℕ) where
   run-done o after room e =
       let t = le-leb (6 * length hs) (length evs) room in
       (rw t (ap Ran (e .0)), rw t (e .1 ∙ events-placed r hs evs room))
+
+-- ---- what a run's answer tells whoever called it
+
+module _ (r : Receiver) (hs : List ℕ) (room : ℕ) where
+  pub ran : (next : Receiver) → runOf r hs room ≡ Ran next → (leb (6 * length hs) room ≡ true) × (receiverAfter r hs ≡ next)
+  unfolding runOf
+  ran next e = go (leb (6 * length hs) room) e
+    where
+      go : (b : Bool) → pick b (Ran (receiverAfter r hs)) RefusedShort ≡ Ran next → (b ≡ true) × (receiverAfter r hs ≡ next)
+      go true e′ = (refl, cc)
+      go false e′ = (cc, cc)
+
+  pub ran-short : runOf r hs room ≡ RefusedShort → leb (6 * length hs) room ≡ false
+  unfolding runOf
+  ran-short e = go (leb (6 * length hs) room) e
+    where
+      go : (b : Bool) → pick b (Ran (receiverAfter r hs)) RefusedShort ≡ RefusedShort → b ≡ false
+      go true e′ = cc
+      go false e′ = refl

@@ -1,0 +1,4 @@
+pub mod Packed
+pub mod Bursts
+pub mod Radio
+pub mod Receivers
