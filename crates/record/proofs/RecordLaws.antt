@@ -1,0 +1,261 @@
+-- Laws of one record: whatever the act, a record that keeps the rules keeps them.
+--
+--     pick-both                     what holds of both values holds of the chosen one
+--     Good, good, good-is-ok        the rules of a record, one by one
+--     full-ok, dark-ok, lit-ok, dimmed-ok, brightened-ok, levelB-ok, preset-ok     levels that a module can have
+--     relevel-good, readdress-good, regroup-good                                   the three ways in which a record changes
+--     joined-good, left-good, obeyed-good, acted-good
+--     record-stays-valid            the law
+use mathlib.Core.Path.{_≡_, refl, sym, ap, ap₂, subst, _∙_}
+use mathlib.Core.Bool.{Bool, true, false, not, _&&_, _||_, and-eq-true-iff, or-true, and-true}
+use Prim.Native.Nat.{ℕ, zero, suc, _+_, _-_, _*_, _/_, _%_, _^_, min, max, _≤_, _<_}
+use native.Mathlib.Nat.{le-of-suc-le-suc, not-suc-le-zero}
+use native.Mathlib.Omega.{arith}
+use borrow.Author.Tests.{leb-true, eqb-true, le-leb, eq-eqb, not-false}
+use lib.Dec.{eqb, leb}
+use Rattle.message.specs.Choice.{pick}
+use Rattle.message.specs.declared.Function.{Function}
+use Rattle.message.specs.declared.Function.the-variants.{AllUnitsOff, AllLightsOn, On, Off, Dim, Bright, AllLightsOff, HailRequest, HailAcknowledge, StatusOn, StatusOff, StatusRequest}
+use Rattle.record.specs.declared.Record.{Record}
+use Rattle.record.specs.declared.Act.{Act}
+use Rattle.record.specs.declared.Act.the-variants.{Nothing, Address, Obey, Join, Level, JoinAt, UnitsOn, UnitsOff, Leave, LeaveHouse, Execute, GroupOff, GroupDim, GroupBright}
+use Rattle.record.specs.Layout.{present, lamp, appliance, bit, member, preset, maskOf, withLevel, withAddressed, regroup}
+use Rattle.record.specs.ModuleTable.{levelOk, groupOk, allZeros, recordOk, relevel, lit, dimmed, brightened, addressed, obeyed, group, levelB, joined, left, acted, stepRecord}
+
+pub pick-both {ℓ} : {A : Type 0} (P : A → Type ℓ) (b : Bool) (x y : A) → P x → P y → P (pick b x y)
+pick-both P true x y px py = px
+pick-both P false x y px py = py
+
+both : {a b : Bool} → a ≡ true → b ≡ true → (a && b) ≡ true
+both {a} {b} p q = and-eq-true-iff a b .1 (p, q)
+
+-- ---- the rules, one by one
+
+-- the four groups of a record, as their members and presets are told
+abbrev Groups : Record → (ℕ → Bool) → (ℕ → ℕ) → Type 0
+Groups r mem pre = (k : ℕ) → k < 4 → (levelOk r (pre k) && (mem k || eqb (pre k) 0)) ≡ true
+
+pub record Good (r : Record) : Type 0 where
+  pub kind : leb (r .kind) 2 ≡ true
+  pub level : levelOk r (r .level) ≡ true
+  pub mark : leb (r .addressed) 1 ≡ true
+  pub mask : leb (r .mask) 15 ≡ true
+  pub groups : Groups r (λ k. member k r) (λ k. preset k r)
+  pub zeros : (present r || allZeros r) ≡ true
+
+-- four cases as one
+each-of-four : (f : ℕ → Bool) → f 0 ≡ true → f 1 ≡ true → f 2 ≡ true → f 3 ≡ true → (k : ℕ) → k < 4 → f k ≡ true
+each-of-four f a b c d zero h = a
+each-of-four f a b c d (suc zero) h = b
+each-of-four f a b c d (suc (suc zero)) h = c
+each-of-four f a b c d (suc (suc (suc zero))) h = d
+each-of-four f a b c d (suc (suc (suc (suc k)))) h = absurd (omega arith)
+
+nine : (a b c d e f g h i : Bool) → (a && b && c && d && e && f && g && h && i) ≡ true
+    → (a ≡ true) × (b ≡ true) × (c ≡ true) × (d ≡ true) × (e ≡ true) × (f ≡ true) × (g ≡ true) × (h ≡ true) × (i ≡ true)
+nine a b c d e f g h i p =
+    let p8 = and-eq-true-iff (a && b && c && d && e && f && g && h) i .0 p in
+    let p7 = and-eq-true-iff (a && b && c && d && e && f && g) h .0 (p8 .0) in
+    let p6 = and-eq-true-iff (a && b && c && d && e && f) g .0 (p7 .0) in
+    let p5 = and-eq-true-iff (a && b && c && d && e) f .0 (p6 .0) in
+    let p4 = and-eq-true-iff (a && b && c && d) e .0 (p5 .0) in
+    let p3 = and-eq-true-iff (a && b && c) d .0 (p4 .0) in
+    let p2 = and-eq-true-iff (a && b) c .0 (p3 .0) in
+    let p1 = and-eq-true-iff a b .0 (p2 .0) in
+    (p1 .0, p1 .1, p2 .1, p3 .1, p4 .1, p5 .1, p6 .1, p7 .1, p8 .1)
+
+pub good : (r : Record) → recordOk r ≡ true → Good r
+unfolding recordOk
+good r e =
+    let parts =
+    nine (leb (r .kind) 2) (levelOk r (r .level)) (leb (r .addressed) 1) (leb (r .mask) 15)
+    (groupOk 0 r) (groupOk 1 r) (groupOk 2 r) (groupOk 3 r) (present r || allZeros r) e in
+    record {
+      kind = parts .0;
+      level = parts .1;
+      mark = parts .2;
+      mask = parts .3;
+      groups = each-of-four (λ k. groupOk k r) (parts .4) (parts .5) (parts .6) (parts .7);
+      zeros = parts .8;
+    }
+
+pub good-is-ok : (r : Record) → Good r → recordOk r ≡ true
+unfolding recordOk
+good-is-ok r g =
+    both (both (both (both (both (both (both (both (g .kind) (g .level)) (g .mark)) (g .mask)) (g .groups 0 (omega arith))) (g .groups 1 (omega arith))) (g .groups 2 (omega arith))) (g .groups 3 (omega arith))) (g .zeros)
+
+-- ---- levels that a module can have
+
+pub full-ok : (r : Record) → levelOk r 63 ≡ true
+full-ok r = or-true (not (appliance r) || false)
+
+pub dark-ok : (r : Record) → levelOk r 0 ≡ true
+dark-ok r = go (appliance r)
+  where
+    go : (b : Bool) → (not b || true || false) ≡ true
+    go true = refl
+    go false = refl
+
+pub lit-ok : (r : Record) (l : ℕ) → levelOk r l ≡ true → levelOk r (lit l) ≡ true
+lit-ok r l e = pick-both (λ x. levelOk r x ≡ true) (eqb l 0) 63 l (full-ok r) e
+
+-- a lamp can have any level up to 63
+lamp-ok : (r : Record) (x : ℕ) → lamp r ≡ true → x ≤ 63 → levelOk r x ≡ true
+lamp-ok r x e h = rw (le-leb x 63 h, eqb-true (r .kind) 1 e)
+
+-- a level that a module can have is at most 63
+at-most : (r : Record) (x : ℕ) → levelOk r x ≡ true → x ≤ 63
+at-most r x e = leb-true x 63 (and-eq-true-iff (leb x 63) (not (appliance r) || eqb x 0 || eqb x 63) .0 e .0)
+
+pub dimmed-ok : (r : Record) → lamp r ≡ true → levelOk r (r .level) ≡ true → levelOk r (dimmed (r .level)) ≡ true
+dimmed-ok r e h =
+    let low : lit (r .level) ≤ 63 = at-most r (lit (r .level)) (lit-ok r (r .level) h) in
+    lamp-ok r (dimmed (r .level)) e (omega arith)
+
+pub brightened-ok : (r : Record) → lamp r ≡ true → levelOk r (brightened (r .level)) ≡ true
+brightened-ok r e = lamp-ok r (brightened (r .level)) e (omega arith)
+
+pub levelB-ok : (d : ℕ) (r : Record) → levelOk r (levelB d r) ≡ true
+levelB-ok d r = go (appliance r) refl (eqb (d % 64) 0) refl
+  where
+    low : leb (d % 64) 63 ≡ true
+    low = le-leb (d % 64) 63 (omega arith)
+
+    go : (a : Bool) → appliance r ≡ a → (z : Bool) → eqb (d % 64) 0 ≡ z → levelOk r (levelB d r) ≡ true
+    go true e true z = simp (e, z, low)
+    go true e false z = simp (e, z)
+    go false e z f = simp (e, low)
+
+pub preset-ok : (r : Record) → Good r → (g : ℕ) → levelOk r (preset g r) ≡ true
+preset-ok r good g =
+    let own : (k : ℕ) → k < 4 → levelOk r (preset k r) ≡ true =
+    λ k h. and-eq-true-iff (levelOk r (preset k r)) (member k r || eqb (preset k r) 0) .0 (good .groups k h) .0 in
+    let P : ℕ → Type 0 = λ x. levelOk r x ≡ true in
+    pick-both P (eqb g 0) (r .preset0) _ (own 0 (omega arith))
+    (pick-both P (eqb g 1) (r .preset1) _ (own 1 (omega arith))
+    (pick-both P (eqb g 2) (r .preset2) (r .preset3) (own 2 (omega arith)) (own 3 (omega arith))))
+
+-- ---- the three ways in which a record changes
+
+module _ (r : Record) (g : Good r) (here : present r ≡ true) where
+  -- another level, where the test holds
+  pub relevel-good : (b : Bool) (x : ℕ) → (b ≡ true → levelOk r x ≡ true) → Good (relevel b x r)
+  relevel-good true x h =
+      record { kind = g .kind; level = h refl; mark = g .mark; mask = g .mask; groups = g .groups; zeros = rw here }
+  relevel-good false x h = g
+
+  -- another mark of being addressed
+  pub readdress-good : (x : ℕ) → leb x 1 ≡ true → Good (withAddressed x r)
+  readdress-good x h =
+      record { kind = g .kind; level = g .level; mark = h; mask = g .mask; groups = g .groups; zeros = rw here }
+
+-- the bits of a mask, told one by one
+mask-bits : (a b c d : Bool) → (leb (maskOf a b c d) 15 ≡ true) × (bit 0 (maskOf a b c d) ≡ a) × (bit 1 (maskOf a b c d) ≡ b) × (bit 2 (maskOf a b c d) ≡ c) × (bit 3 (maskOf a b c d) ≡ d)
+mask-bits true true true true = (refl, refl, refl, refl, refl)
+mask-bits true true true false = (refl, refl, refl, refl, refl)
+mask-bits true true false true = (refl, refl, refl, refl, refl)
+mask-bits true true false false = (refl, refl, refl, refl, refl)
+mask-bits true false true true = (refl, refl, refl, refl, refl)
+mask-bits true false true false = (refl, refl, refl, refl, refl)
+mask-bits true false false true = (refl, refl, refl, refl, refl)
+mask-bits true false false false = (refl, refl, refl, refl, refl)
+mask-bits false true true true = (refl, refl, refl, refl, refl)
+mask-bits false true true false = (refl, refl, refl, refl, refl)
+mask-bits false true false true = (refl, refl, refl, refl, refl)
+mask-bits false true false false = (refl, refl, refl, refl, refl)
+mask-bits false false true true = (refl, refl, refl, refl, refl)
+mask-bits false false true false = (refl, refl, refl, refl, refl)
+mask-bits false false false true = (refl, refl, refl, refl, refl)
+mask-bits false false false false = (refl, refl, refl, refl, refl)
+
+module _ (r : Record) (g : Good r) (here : present r ≡ true) where
+  -- other memberships and presets
+  pub regroup-good : (mem : ℕ → Bool) (pre : ℕ → ℕ) → Groups r mem pre → Good (regroup mem pre r)
+  regroup-good mem pre h =
+      let bits = mask-bits (mem 0) (mem 1) (mem 2) (mem 3) in
+      let at : (k : ℕ) → k < 4 → (m : Bool) → m ≡ mem k → (levelOk r (pre k) && (m || eqb (pre k) 0)) ≡ true =
+      λ k hk m e. rw e (h k hk) in
+      record {
+        kind = g .kind;
+        level = g .level;
+        mark = g .mark;
+        mask = bits .0;
+        groups =
+            each-of-four (λ k. groupOk k (regroup mem pre r))
+            (at 0 (omega arith) _ (bits .1))
+            (at 1 (omega arith) _ (bits .2))
+            (at 2 (omega arith) _ (bits .3))
+            (at 3 (omega arith) _ (bits .4));
+        zeros = rw here;
+      }
+
+  pub joined-good : (j x : ℕ) → levelOk r x ≡ true → Good (joined j x r)
+  unfolding joined
+  joined-good j x h =
+      regroup-good (λ k. eqb j k || member k r) (λ k. pick (eqb j k) x (preset k r))
+      (λ k hk. go k (eqb j k) (g .groups k hk))
+    where
+      go : (k : ℕ) (b : Bool) → groupOk k r ≡ true → (levelOk r (pick b x (preset k r)) && ((b || member k r) || eqb (pick b x (preset k r)) 0)) ≡ true
+      go k true e = rw h
+      go k false e = e
+
+  pub left-good : (d : ℕ) → Good (left d r)
+  unfolding left
+  left-good d =
+      regroup-good (λ k. member k r && not (bit k d)) (λ k. pick (bit k d) 0 (preset k r))
+      (λ k hk. go k (bit k d) (g .groups k hk))
+    where
+      go : (k : ℕ) (b : Bool) → groupOk k r ≡ true → (levelOk r (pick b 0 (preset k r)) && (member k r && not b || eqb (pick b 0 (preset k r)) 0)) ≡ true
+      go k true e = both (dark-ok r) (or-true (member k r && false))
+      go k false e = rw (and-true (member k r)) e
+
+  -- ---- the acts
+
+  pub obeyed-good : (f : Function) → Good (obeyed f r)
+  obeyed-good On = relevel-good r g here (addressed r) (lit (r .level)) (λ e. lit-ok r (r .level) (g .level))
+  obeyed-good Off = relevel-good r g here (addressed r) 0 (λ e. dark-ok r)
+  obeyed-good Dim =
+      relevel-good r g here (addressed r && lamp r) (dimmed (r .level))
+      (λ e. dimmed-ok r (and-eq-true-iff (addressed r) (lamp r) .0 e .1) (g .level))
+  obeyed-good Bright =
+      relevel-good r g here (addressed r && lamp r) (brightened (r .level))
+      (λ e. brightened-ok r (and-eq-true-iff (addressed r) (lamp r) .0 e .1))
+  obeyed-good AllLightsOn = relevel-good r g here (lamp r) 63 (λ e. full-ok r)
+  obeyed-good AllLightsOff = relevel-good r g here (lamp r) 0 (λ e. dark-ok r)
+  obeyed-good AllUnitsOff = readdress-good (withLevel 0 r) (relevel-good r g here true 0 (λ e. dark-ok r)) here 0 refl
+  obeyed-good HailRequest = g
+  obeyed-good HailAcknowledge = g
+  obeyed-good StatusOn = g
+  obeyed-good StatusOff = g
+  obeyed-good StatusRequest = g
+
+  pub acted-good : (a : Act) (n : ℕ) → Good (acted a n r)
+  acted-good Nothing n = g
+  acted-good (Address u anew) n =
+      readdress-good r g here (pick (eqb n u) 1 (pick anew 0 (r .addressed)))
+      (pick-both (λ x. leb x 1 ≡ true) (eqb n u) 1 (pick anew 0 (r .addressed)) refl
+      (pick-both (λ x. leb x 1 ≡ true) anew 0 (r .addressed) refl (g .mark)))
+  acted-good (Obey f) n = obeyed-good f
+  acted-good (Join u d) n = pick-both Good (eqb n u) _ _ (joined-good (group d) (r .level) (g .level)) g
+  acted-good (Level u d) n = relevel-good r g here (eqb n u) (levelB d r) (λ e. levelB-ok d r)
+  acted-good (JoinAt u d) n = pick-both Good (eqb n u) _ _ (joined-good (group d) (levelB d r) (levelB-ok d r)) g
+  acted-good UnitsOn n = relevel-good r g here true 63 (λ e. full-ok r)
+  acted-good UnitsOff n = relevel-good r g here true 0 (λ e. dark-ok r)
+  acted-good (Leave u d) n = pick-both Good (eqb n u) _ _ (left-good d) g
+  acted-good (LeaveHouse d) n = left-good d
+  acted-good (Execute d) n = relevel-good r g here (member (group d) r) (preset (group d) r) (λ e. preset-ok r g (group d))
+  acted-good (GroupOff d) n = relevel-good r g here (member (group d) r) 0 (λ e. dark-ok r)
+  acted-good (GroupDim d) n =
+      relevel-good r g here (member (group d) r && lamp r) (dimmed (r .level))
+      (λ e. dimmed-ok r (and-eq-true-iff (member (group d) r) (lamp r) .0 e .1) (g .level))
+  acted-good (GroupBright d) n =
+      relevel-good r g here (member (group d) r && lamp r) (brightened (r .level))
+      (λ e. brightened-ok r (and-eq-true-iff (member (group d) r) (lamp r) .0 e .1))
+
+pub record-stays-valid : (a : Act) (n : ℕ) (r : Record) → recordOk r ≡ true → recordOk (stepRecord a n r) ≡ true
+unfolding stepRecord
+record-stays-valid a n r e = go (present r) refl
+  where
+    go : (b : Bool) → present r ≡ b → recordOk (pick b (acted a n r) r) ≡ true
+    go true here = good-is-ok (acted a n r) (acted-good r (good r e) here a n)
+    go false gone = e

@@ -1,0 +1,138 @@
+// The lent bytes of a module table: whether they keep its rules, and an act run on the records of a house.
+use record::Act;
+use record::HEARD_AT;
+use record::HOUSES;
+use record::RECORD_BYTES;
+use record::RECORDS;
+use record::Record;
+use record::TABLE_BYTES;
+use record::UNITS;
+use record::step::step;
+ghost use mathlib.Core.Path.{_≡_};
+ghost use Prim.Native.Nat.{_<_};
+ghost use lib.ListN.{length};
+ghost use Rattle.record.specs.Layout.{RECORDS, HOUSES, UNITS, TABLE-BYTES, recordAt, put, heardAt};
+ghost use Rattle.record.specs.ModuleTable.{recordsOk, housesOk, tableOk, stepHouse, changed};
+ghost use Rattle.table.specs.Lent.{Stepped, ranIn};
+
+// Record i of a table.
+fn load(t: &[u8], i: usize) -> Record
+    requires { ⌜ (length (now t) ≡ TABLE-BYTES) × (i < RECORDS) ⌝ }
+    ensures { λ r. ⌜ r ≡ recordAt (now (t .entry)) i ⌝ }
+{
+    let at = i * RECORD_BYTES;
+    Record {
+        kind: t[at],
+        level: t[at + 1],
+        addressed: t[at + 2],
+        mask: t[at + 3],
+        preset0: t[at + 4],
+        preset1: t[at + 5],
+        preset2: t[at + 6],
+        preset3: t[at + 7],
+    }
+}
+
+// Puts a record at place i of a table.
+fn store(t: &mut [u8], i: usize, r: Record)
+    requires { ⌜ (length (now t) ≡ TABLE-BYTES) × (i < RECORDS) ⌝ }
+    ensures { λ _. ⌜ now (t .exit) ≡ put (now (t .entry)) i r ⌝ }
+{
+    let at = i * RECORD_BYTES;
+    t[at] = r.kind;
+    t[at + 1] = r.level;
+    t[at + 2] = r.addressed;
+    t[at + 3] = r.mask;
+    t[at + 4] = r.preset0;
+    t[at + 5] = r.preset1;
+    t[at + 6] = r.preset2;
+    t[at + 7] = r.preset3;
+}
+
+// Whether each record keeps the rules. Every one is tested: with no early way out the tests run side by side.
+fn records_ok(t: &[u8]) -> bool
+    requires { ⌜ length (now t) ≡ TABLE-BYTES ⌝ }
+    ensures { λ r. ⌜ r ≡ recordsOk RECORDS (now (t .entry)) ⌝ }
+{
+    let mut ok = true;
+    let mut i = 0;
+    while i < RECORDS {
+        ok = ok & record::valid(load(t, i));
+        i += 1;
+    }
+    ok
+}
+
+// Whether each "command heard" byte is 0 or 1.
+fn houses_ok(t: &[u8]) -> bool
+    requires { ⌜ length (now t) ≡ TABLE-BYTES ⌝ }
+    ensures { λ r. ⌜ r ≡ housesOk HOUSES (now (t .entry)) ⌝ }
+{
+    let mut ok = true;
+    let mut h = 0;
+    while h < HOUSES {
+        ok = ok & (t[HEARD_AT + h] <= 1);
+        h += 1;
+    }
+    ok
+}
+
+// Whether the bytes are a table that keeps the rules.
+pub fn valid(t: &[u8]) -> bool
+    ensures { λ r. ⌜ r ≡ tableOk (now (t .entry)) ⌝ }
+{
+    if t.len() != TABLE_BYTES {
+        return false;
+    }
+    records_ok(t) & houses_ok(t)
+}
+
+// The "command heard" byte of a house, and 0 past the end of the bytes.
+pub fn heard(t: &[u8], house: u8) -> u8
+    ensures { λ r. ⌜ r ≡ heardAt (now (t .entry)) house ⌝ }
+{
+    let at = HEARD_AT + house as usize;
+    if at < t.len() { t[at] } else { 0 }
+}
+
+// Steps record i of a table, as that of unit n, and answers 1 where its level changed.
+fn step_at(t: &mut [u8], i: usize, act: Act, n: u8) -> usize
+    requires { ⌜ (length (now t) ≡ TABLE-BYTES) × (i < RECORDS) ⌝ }
+    ensures { λ r. ⌜ Stepped act n i (now (t .entry)) (now (t .exit)) r ⌝ }
+{
+    let before = load(t, i);
+    let after = step(act, n, before);
+    store(t, i, after);
+    if before.level == after.level { 0 } else { 1 }
+}
+
+// Steps the sixteen records of a house, and answers how many levels changed.
+fn step_house(t: &mut [u8], house: u8, act: Act) -> usize
+    requires { ⌜ (length (now t) ≡ TABLE-BYTES) × (house < HOUSES) ⌝ }
+    ensures { λ r. ⌜ (now (t .exit) ≡ stepHouse UNITS act house (now (t .entry))) × (r ≡ changed RECORDS (now (t .entry)) (now (t .exit))) ⌝ }
+{
+    let first = house as usize * UNITS;
+    let mut count: usize = 0;
+    let mut n: usize = 0;
+    while n < UNITS {
+        count = count + step_at(t, first + n, act, n as u8);
+        n += 1;
+    }
+    count
+}
+
+// Runs an act for a house: its sixteen records, and then its "command heard" byte. Answers how many levels changed. Bytes that are
+// no table, and a house above 15, are left as they are.
+pub fn run_act(t: &mut [u8], house: u8, act: Act, heard: u8) -> usize
+    ensures { λ r. ⌜ (now (t .exit) ≡ ranIn act house heard (now (t .entry))) × (r ≡ changed RECORDS (now (t .entry)) (now (t .exit))) ⌝ }
+{
+    if t.len() != TABLE_BYTES {
+        return 0;
+    }
+    if house as usize >= HOUSES {
+        return 0;
+    }
+    let count = step_house(t, house, act);
+    t[HEARD_AT + house as usize] = heard;
+    count
+}

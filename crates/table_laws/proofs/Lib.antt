@@ -1,0 +1,3 @@
+pub mod HouseLaws
+pub mod Outcomes
+pub mod Theorems
