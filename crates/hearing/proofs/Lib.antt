@@ -1,0 +1,11 @@
+pub mod Runs
+pub mod Steps
+pub mod FrameBits
+pub mod Pasts
+pub mod FrameHeard
+pub mod Hush
+pub mod Rests
+pub mod Whole
+pub mod Standing
+pub mod Told
+pub mod Inversion
