@@ -3,7 +3,7 @@
 --     meant, not-refused            the messages of a valid command
 --     two-obeyed, one-obeyed        a radio command's messages applied
 --     radio-refused, radio-obeyed   the radio route
---     quiet, given-applied          an event on a judged table
+--     heeded                        an event on a judged table
 --     mains-refused, mains-heard    the mains route
 use mathlib.Core.Path.{_≡_, refl, sym, ap, subst, _∙_}
 use mathlib.Core.Bool.{Bool, true, false}
@@ -25,9 +25,8 @@ use Rattle.radio.specs.declared.RadioCommand.the-variants.{On, Off, Bright, Dim
 use Rattle.receiver.specs.Receivers.{stepOf}
 use Rattle.receiver.specs.declared.Receiver.{Receiver}
 use Rattle.receiver.specs.declared.Event.{Event}
-use Rattle.receiver.specs.declared.Event.the-variants.{Message as Gives}
+use Rattle.receiver.specs.declared.Event.the-variants.{Nothing, Message as Gives, Repeat, BrokenPair, BrokenUnsupported, RefusedHalf as NoHalf, RefusedState as NoState}
 use Rattle.receiver.specs.declared.Heard.{Heard}
-use Rattle.hearing.specs.Inversion.{givenBy}
 use Rattle.record.specs.Layout.{RECORDS, TABLE-BYTES, recordAt}
 use Rattle.record.specs.ModuleTable.{tableOk, changed}
 use Rattle.table.proofs.TableLaws.{changed-none}
@@ -35,7 +34,7 @@ use Rattle.apply.specs.Applied.{Answer, tableAfter, rightAnswer}
 use Rattle.apply.specs.Judged.{judgedTable, judgedAnswer}
 use Rattle.apply.proofs.JudgedLaws.{judged-right}
 use Rattle.table_laws.proofs.Theorems.{valid-stays}
-use Rattle.routes.specs.Routes.{applyAll, judged, answered, meantBy, radioNumber, radioTable, radioAnswer, eventNumber, eventTable, eventAnswer, Turn, unheardBy, mainsTable, mainsTurn}
+use Rattle.routes.specs.Routes.{applyAll, judged, answered, meantBy, radioNumber, radioTable, radioAnswer, eventNumber, eventTable, eventAnswer, heedAnswer, heedTable, Turn, unheardBy, mainsTable, mainsTurn}
 use Rattle.routes.proofs.Levels.{address-levels, levels-count}
 
 -- ---- a radio command on a judged table
@@ -100,15 +99,15 @@ module _ (code t : List ℕ) where
 
 -- ---- an event on a judged table
 
-module _ (t : List ℕ) where
-  pub quiet : (e : Event) → givenBy e ≡ [] → (answered (eventNumber e t) 0 ≡ eventAnswer e t) × (t ≡ eventTable e t)
-  unfolding eventAnswer eventTable applyAll
-  quiet e none = (rw (none, changed-none RECORDS t), rw none)
-
-  pub given-applied : (m : Message) (u : List ℕ) (a : Answer) → tableOk t ≡ true → (a ≡ judgedAnswer m t) × (u ≡ judgedTable m t)
-      → (a ≡ eventAnswer (Gives m) t) × (u ≡ eventTable (Gives m) t)
-  unfolding eventAnswer eventTable applyAll rightAnswer
-  given-applied m u a whole did = let right = judged-right m t whole in (did .0 ∙ right .0, did .1 ∙ right .1)
+pub heeded : (e : Event) (t : List ℕ) → tableOk t ≡ true → (heedAnswer e t ≡ eventAnswer e t) × (heedTable e t ≡ eventTable e t)
+unfolding eventAnswer eventTable applyAll rightAnswer
+heeded Nothing t whole = (rw (changed-none RECORDS t), refl)
+heeded (Gives m) t whole = judged-right m t whole
+heeded Repeat t whole = (rw (changed-none RECORDS t), refl)
+heeded BrokenPair t whole = (rw (changed-none RECORDS t), refl)
+heeded BrokenUnsupported t whole = (rw (changed-none RECORDS t), refl)
+heeded NoHalf t whole = (rw (changed-none RECORDS t), refl)
+heeded NoState t whole = (rw (changed-none RECORDS t), refl)
 
 -- ---- the mains route
 
@@ -119,10 +118,11 @@ module _ (r : Receiver) (h : ℕ) (t : List ℕ) where
   mains-refused n e broken = (rw (e, broken, changed-none RECORDS t), rw broken)
 
   pub mains-heard : (o : Heard) (u : List ℕ) (a : Answer) → length t ≡ TABLE-BYTES → tableOk t ≡ true → o ≡ stepOf r h
-      → (a ≡ eventAnswer (o .event) t) × (u ≡ eventTable (o .event) t)
+      → (a ≡ heedAnswer (o .event) t) × (u ≡ heedTable (o .event) t)
       → (record { answer = a; event = o .event; next = o .next } ≡ mainsTurn r h t) × (u ≡ mainsTable r h t)
   unfolding mainsTurn mainsTable eventAnswer judged
   mains-heard o u a size whole heard did =
       let long = eq-eqb (length t) TABLE-BYTES size in
-      let answer : a ≡ eventAnswer (stepOf r h .event) t = did .0 ∙ ap (λ (x : Heard). eventAnswer (x .event) t) heard in
-      (rw (long, whole, heard, answer), rw whole (did .1 ∙ ap (λ (x : Heard). eventTable (x .event) t) heard))
+      let right = heeded (o .event) t whole in
+      let answer : a ≡ eventAnswer (stepOf r h .event) t = did .0 ∙ right .0 ∙ ap (λ (x : Heard). eventAnswer (x .event) t) heard in
+      (rw (long, whole, heard, answer), rw whole (did .1 ∙ right .1 ∙ ap (λ (x : Heard). eventTable (x .event) t) heard))

@@ -17,6 +17,7 @@ use Rattle.hearing.specs.Inversion.{givenBy}
 use Rattle.record.specs.Layout.{RECORDS, TABLE-BYTES}
 use Rattle.record.specs.ModuleTable.{tableOk, changed}
 use Rattle.apply.specs.Applied.{Answer, answerOf, numberFor, tableAfter}
+use Rattle.apply.specs.Judged.{judgedTable, judgedAnswer}
 use Rattle.routes.specs.declared.RadioRouteAnswer.{RadioRouteAnswer}
 use Rattle.routes.specs.declared.RadioRouteAnswer.the-variants as radio
 use Rattle.routes.specs.declared.MainsAnswer.{MainsAnswer}
@@ -82,12 +83,31 @@ eventNumber BrokenUnsupported t = NONE
 eventNumber NoHalf t = HALF
 eventNumber NoState t = STATE
 
--- an event on a table that keeps the rules: MESSAGE is applied and REPEAT is not
+-- the table after an event: MESSAGE is applied and REPEAT is not
 unfoldable pub eventTable : Event → List ℕ → List ℕ
 eventTable e t = applyAll (givenBy e) t
 
 unfoldable pub eventAnswer : Event → List ℕ → Answer
 eventAnswer e t = answered (eventNumber e t) (changed RECORDS t (eventTable e t))
+
+-- the same where the records are not judged: of a table that keeps the rules it is what stands above
+abbrev pub heedAnswer : Event → List ℕ → Answer
+heedAnswer Nothing t = answered NONE 0
+heedAnswer (Gives m) t = judgedAnswer m t
+heedAnswer Repeat t = answered NONE 0
+heedAnswer BrokenPair t = answered NONE 0
+heedAnswer BrokenUnsupported t = answered NONE 0
+heedAnswer NoHalf t = answered HALF 0
+heedAnswer NoState t = answered STATE 0
+
+abbrev pub heedTable : Event → List ℕ → List ℕ
+heedTable Nothing t = t
+heedTable (Gives m) t = judgedTable m t
+heedTable Repeat t = t
+heedTable BrokenPair t = t
+heedTable BrokenUnsupported t = t
+heedTable NoHalf t = t
+heedTable NoState t = t
 
 -- the table at exit
 unfoldable pub mainsTable : Receiver → ℕ → List ℕ → List ℕ

@@ -17,7 +17,7 @@ ghost use Rattle.record.specs.ModuleTable.{tableOk, changed};
 ghost use Rattle.radio.specs.Codes.{commandOk};
 ghost use Rattle.radio.specs.Answers.{messagesOf};
 ghost use Rattle.apply.specs.Applied.{answerOf};
-ghost use Rattle.routes.specs.Routes.{applyAll, radioMeans, radioAnswer, radioTable, mainsMeans, eventAnswer, eventTable, turnMeans, unheardBy, mainsTurn, mainsTable};
+ghost use Rattle.routes.specs.Routes.{applyAll, radioMeans, radioAnswer, radioTable, mainsMeans, heedAnswer, heedTable, turnMeans, unheardBy, mainsTurn, mainsTable};
 
 // What the radio route answers.
 pub enum RadioRouteAnswer {
@@ -105,10 +105,9 @@ pub fn radio_route(table: &mut [u8], code: &[u8]) -> RadioRouteAnswer
     }
 }
 
-// Applies the message of an event, if it has one.
-fn heed(event: Event, table: &mut [u8]) -> MainsAnswer
-    requires { ⌜ tableOk (now table) ≡ true ⌝ }
-    ensures { λ r. ⌜ (mainsMeans r ≡ eventAnswer event (now (table .entry))) × (now (table .exit) ≡ eventTable event (now (table .entry))) ⌝ }
+// Applies the message of an event, if it has one, to a table that the caller has judged.
+pub fn heed(event: Event, table: &mut [u8]) -> MainsAnswer
+    ensures { λ r. ⌜ (mainsMeans r ≡ heedAnswer event (now (table .entry))) × (now (table .exit) ≡ heedTable event (now (table .entry))) ⌝ }
 {
     match event {
         Event::Nothing => MainsAnswer::Quiet,

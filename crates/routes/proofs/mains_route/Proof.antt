@@ -41,7 +41,7 @@ step-requires : tie.Need-step-requires
 step-requires c κs = search needs
 
 heed-requires : tie.Need-heed-requires
-heed-requires c κs = sym (c .before .before .before .before .valid .ensures) ∙ not-false _ (c .before .before .before .if2 .left)
+heed-requires c κs = search needs
 
 same-length-2 : tie.Need-same-length-2
 same-length-2 c = search needs
