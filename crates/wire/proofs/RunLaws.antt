@@ -6,6 +6,7 @@
 --     turned                       one turn of a run: one step, and its event's bytes
 --     events-placed                the events' bytes at the buffer's front
 --     run-refused, run-done        what a run owes at each return
+--     heard-once, first-placed     one step by way of a run; one event at a buffer's front
 --     ran, ran-short               what its answer tells whoever called it
 use mathlib.Core.Path.{_≡_, refl, sym, ap, ap₂, _∙_}
 use mathlib.Core.Bool.{Bool, true, false}
@@ -21,7 +22,7 @@ use lib.Seq.{sets, sets-eq, length-sets, drop-cons}
 use Rattle.message.specs.Choice.{pick}
 use Rattle.message.specs.declared.Message.{Message}
 use Rattle.message.specs.declared.Message.the-variants.{Address, Function as Command, Extended}
-use Rattle.receiver.specs.Receivers.{stepOf}
+use Rattle.receiver.specs.Receivers.{stepOf, says}
 use Rattle.receiver.specs.Hearing.{eventsOf, receiverAfter}
 use Rattle.receiver.specs.declared.Receiver.{Receiver}
 use Rattle.receiver.specs.declared.Heard.{Heard}
@@ -29,7 +30,8 @@ use Rattle.receiver.specs.declared.Event.{Event}
 use Rattle.receiver.specs.declared.Event.the-variants.{Nothing, Message as Gives, Repeat, BrokenPair, BrokenUnsupported, RefusedHalf, RefusedState}
 use Rattle.wire.specs.declared.Five.{Five}
 use Rattle.wire.specs.Messages.{listed, messageBytes}
-use Rattle.wire.specs.Receivers.{givenBytes, receiverBytes, stateAfter, eventBytes, runOf, eventsAfter}
+use Rattle.wire.specs.Receivers.{givenBytes, receiverBytes, stateAfter, eventBytes, firstAfter, runOf, eventsAfter}
+use Rattle.wire.proofs.ReadBack.{eventIn, event-read-back}
 use Rattle.wire.specs.declared.receivers.RunAnswer.{RunAnswer}
 use Rattle.wire.specs.declared.receivers.RunAnswer.the-variants.{Ran, RefusedShort}
 
@@ -144,3 +146,24 @@ module _ (r : Receiver) (hs : List ℕ) (room : ℕ) where
       go : (b : Bool) → pick b (Ran (receiverAfter r hs)) RefusedShort ≡ RefusedShort → b ≡ false
       go true e′ = cc
       go false e′ = refl
+
+-- ---- one step by way of a run, and one event at a buffer's front
+
+pub heard-once : (r : Receiver) (h : ℕ) (l bytes : List ℕ) (e : Event) (next : Receiver) → length l ≡ 6
+    → (next ≡ receiverAfter r (h ∷ [])) × (bytes ≡ sets l 0 (flatMap eventBytes (eventsOf r (h ∷ [])))) → e ≡ eventIn bytes
+    → record { event = e; next = next } ≡ stepOf r h
+unfolding eventsOf receiverAfter flatMap
+heard-once r h l bytes e next six did reads =
+    let s = stepOf r h in
+    let whole = append-nil (eventBytes (s .event)) in
+    let long : length (eventBytes (s .event) ++ []) ≡ length l = ap length whole ∙ event-length (s .event) ∙ sym six in
+    let written : bytes ≡ eventBytes (s .event) = did .1 ∙ sets-whole (eventBytes (s .event) ++ []) l long ∙ whole in
+    let event : e ≡ s .event = reads ∙ ap eventIn written ∙ event-read-back (s .event) in
+    ap₂ (λ (x : Event) (y : Receiver). says x y) event (did .0)
+
+pub first-placed : (e : Event) (l : List ℕ) → 6 ≤ length l → sets l 0 (eventBytes e) ≡ firstAfter e l
+unfolding firstAfter
+first-placed e l room =
+    let long = event-length e in
+    let end : 0 + length (eventBytes e) ≡ 6 = omega arith in
+    sets-eq (eventBytes e) l 0 (omega arith) ∙ ap (λ (k : ℕ). eventBytes e ++ drop k l) end ∙ rw (le-leb 6 (length l) room)

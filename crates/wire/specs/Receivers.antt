@@ -98,6 +98,25 @@ eventBytes e = eventCode e ∷ eventMessage e
 abbrev pub sixListed : Six → List ℕ
 sixListed s = s .code ∷ s .kind ∷ s .house ∷ s .third ∷ s .data ∷ s .command ∷ []
 
+-- the event that six bytes say, and NOTHING where they say none
+abbrev pub eventGives : MessageRead → Event
+eventGives (Says m) = Gives m
+eventGives NoMessage = Nothing
+
+unfoldable pub eventFrom : ℕ → ℕ → ℕ → ℕ → ℕ → ℕ → Event
+eventFrom code kind house third «data» command =
+    pick (eqb code 1) (eventGives (messageFrom kind house third «data» command))
+    (pick (eqb code 2) Repeat
+    (pick (eqb code PAIR) BrokenPair
+    (pick (eqb code UNSUPPORTED) BrokenUnsupported
+    (pick (eqb code HALF) RefusedHalf
+    (pick (eqb code STATE) RefusedState
+    Nothing)))))
+
+-- an event at a buffer's front; a buffer below six bytes is left as it is
+unfoldable pub firstAfter : Event → List ℕ → List ℕ
+firstAfter e buf = pick (leb 6 (length buf)) (eventBytes e ++ drop 6 buf) buf
+
 -- ---- one step for each half-cycle
 
 -- the receiver after the last; refused where the events, six bytes each, have no room

@@ -5,6 +5,7 @@ use crate::five_of;
 use crate::message_from;
 use receiver::Event;
 use receiver::Given;
+use receiver::Heard;
 use receiver::Receiver;
 use receiver::step;
 ghost use mathlib.Core.Path.{_≡_};
@@ -12,10 +13,11 @@ ghost use mathlib.Core.List.{_∷_, flatMap};
 ghost use Prim.Native.Nat.{_+_, _*_, _≤_};
 ghost use lib.ListN.{length};
 ghost use lib.Seq.{sets};
+ghost use Rattle.receiver.specs.Receivers.{stepOf};
 ghost use Rattle.receiver.specs.Hearing.{eventsOf, receiverAfter};
 ghost use Rattle.receiver.specs.declared.Given.the-variants.{No};
 ghost use Rattle.wire.specs.Messages.{listed};
-ghost use Rattle.wire.specs.Receivers.{givenFrom, fromFour, receiverFrom, givenBytes, stateAfter, sixListed, eventBytes, runOf, eventsAfter};
+ghost use Rattle.wire.specs.Receivers.{givenFrom, fromFour, receiverFrom, givenBytes, stateAfter, sixListed, eventBytes, eventFrom, firstAfter, runOf, eventsAfter};
 
 // What the five bytes of the message given before say.
 enum GivenRead {
@@ -198,6 +200,49 @@ fn run_all(r: Receiver, halves: &[u8], events: &mut [u8]) -> Receiver
         i += 1;
     }
     current
+}
+
+// The event that six bytes say.
+fn event_from(code: u8, kind: u8, house: u8, third: u8, data: u8, command: u8) -> Event
+    ensures { λ r. ⌜ r ≡ eventFrom code kind house third «data» command ⌝ }
+{
+    match code {
+        1 => match message_from(kind, house, third, data, command) {
+            MessageRead::Message(m) => Event::Message(m),
+            MessageRead::NoMessage => Event::Nothing,
+        },
+        2 => Event::Repeat,
+        10 => Event::BrokenPair,
+        11 => Event::BrokenUnsupported,
+        5 => Event::RefusedHalf,
+        6 => Event::RefusedState,
+        _ => Event::Nothing,
+    }
+}
+
+// One step of a receiver, by way of the loop above. A library that holds both has the step's code once, which is then part of the
+// loop.
+pub fn hear(r: Receiver, half: u8) -> Heard
+    ensures { λ o. ⌜ o ≡ stepOf r half ⌝ }
+{
+    let halves = [half];
+    let mut six = [0; 6];
+    let next = run_all(r, &halves, &mut six);
+    let event = event_from(six[0], six[1], six[2], six[3], six[4], six[5]);
+    Heard {
+        event: event,
+        next: next,
+    }
+}
+
+// Puts the six bytes of an event at the front of a lent buffer; one with less room is left as it is.
+pub fn put_first(out: &mut [u8], e: Event)
+    ensures { λ _. ⌜ now (out .exit) ≡ firstAfter e (now (out .entry)) ⌝ }
+{
+    if out.len() < 6 {
+        return;
+    }
+    put_event(out, 0, e);
 }
 
 // One step for each half-cycle: the receiver after the last, and six bytes for each event at the front of the lent buffer. Refused,

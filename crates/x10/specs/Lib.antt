@@ -2,3 +2,4 @@ pub mod Packed
 pub mod Bursts
 pub mod Radio
 pub mod Receivers
+pub mod Tables
