@@ -1,11 +1,11 @@
 -- Laws of the answers: which commands are written, which bytes are read, and what the messages are.
 --
---     write-given, written-ok            the four bytes are given for the valid commands alone
+--     write-given                        a valid command's four bytes are given
 --     read-given, ReadAs, accepted       the four bytes of the valid commands are read, and no others
 --     codes-count, codes-one-to-one, codes-read, codes-only      the list of codes is the codes read
 --     all-valid                          the messages of a valid command are valid
 use mathlib.Core.Path.{_≡_, refl, sym, ap, subst, _∙_}
-use mathlib.Core.Bool.{Bool, true, false, _&&_, and-eq-true-iff}
+use mathlib.Core.Bool.{Bool, true, false, and-eq-true-iff}
 use mathlib.Core.List.{List, [], _∷_, List·Memᴰ, Memᴰ·map, Memᴰ·of-map, Memᴰ·cast, head-eq-of-cons-eq}
 use Prim.Native.Nat.{ℕ, _-_, _<_}
 use native.Mathlib.Omega.{arith}
@@ -27,14 +27,6 @@ use Rattle.radio.proofs.CommandLaws.{getD-mem, in-commands, commands-ok
 pub write-given : (k : RadioCommand) → commandOk k ≡ true → writeAnswer k ≡ given (fourBytes k)
 unfolding writeAnswer
 write-given k ok = simp ok
-
-pub written-ok : (k : RadioCommand) (code : List ℕ) → writeAnswer k ≡ given code → (commandOk k ≡ true) × (fourBytes k ≡ code)
-unfolding writeAnswer
-written-ok k code e = go (commandOk k) refl
-  where
-    go : (t : Bool) → commandOk k ≡ t → (commandOk k ≡ true) × (fourBytes k ≡ code)
-    go true t = (t, ap (λ a. a .values) (simp t at e))
-    go false t = let z = ap (λ a. a .number) (simp t at e) in absurd (omega arith)
 
 -- ---- the reader
 

@@ -8,12 +8,12 @@
 --     bytes-one-to-one                    no two valid commands have the same b and c
 use mathlib.Core.Path.{_≡_, refl, sym, ap, ap₂, _∙_}
 use mathlib.Core.Bool.{Bool, true, _&&_, and-eq-true-iff}
-use Prim.Native.Nat.{ℕ, _+_, _*_, _/_, _%_, _≤_, _<_}
+use mathlib.Core.List.{List, [], _∷_}
+use Prim.Native.Nat.{ℕ, zero, suc, _+_, _*_, _/_, _%_, _≤_, _<_}
 use native.Mathlib.Omega.{arith}
-use native.Mathlib.Decide.{decLt}
 use borrow.Author.Tests.{eqb-true, ltb-true, leb-true, ne-eqb}
 use lib.Dec.{eqb, ltb, leb, lit<}
-use lib.ListN.{getD, List·getD-eq-default}
+use lib.ListN.{getD}
 use Rattle.message.specs.Choice.{pick}
 use Rattle.message.specs.Codes.{placeIn}
 use Rattle.message.proofs.Tables.{everyFrom, every-at, ReadsBack, read-back, one-to-one}
@@ -35,13 +35,16 @@ pub house-of-nibble : (h : ℕ) → h < 16 → houseOf (nibbleOf h) ≡ h
 unfolding nibbleOf houseOf houseNibbles
 house-of-nibble h l = read-back eqb houseNibbles 0 h nibbles-read-back l
 
+-- what stands at any place of a table whose entries are below b, and past its end
+entry-below : (xs : List ℕ) (n b i : ℕ) → everyFrom (λ k x. ltb x b) i xs ≡ true → 0 < b → getD xs n 0 < b
+entry-below [] n b i t l = l
+entry-below (x ∷ xs) zero b i t l = ltb-true x b (and-eq-true-iff (ltb x b) (everyFrom (λ k y. ltb y b) (suc i) xs) .0 t .0)
+entry-below (x ∷ xs) (suc n) b i t l =
+    entry-below xs n b (suc i) (and-eq-true-iff (ltb x b) (everyFrom (λ k y. ltb y b) (suc i) xs) .0 t .1) l
+
 pub nibble-below : (h : ℕ) → nibbleOf h < 16
 unfolding nibbleOf houseNibbles
-nibble-below h = go (decLt h 16)
-  where
-    go : Dec (h < 16) → nibbleOf h < 16
-    go (yes l) = ltb-true (getD houseNibbles h 0) 16 (every-at (λ k x. ltb x 16) houseNibbles 0 h refl l)
-    go (no l) = let past : 16 ≤ h = omega arith in rw (List·getD-eq-default houseNibbles 0 past) (lit< tt)
+nibble-below h = entry-below houseNibbles h 16 0 refl (lit< tt)
 
 -- what a test says at each of the sixteen numbers
 at-sixteen : (f : ℕ → Bool) → everyFrom (λ k x. f k) 0 sixteen ≡ true → (n : ℕ) → n < 16 → f n ≡ true

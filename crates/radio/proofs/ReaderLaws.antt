@@ -1,14 +1,17 @@
--- Laws for the reader: which b and c a command has, and that the numbers taken out of b and c make them again.
-use mathlib.Core.Path.{_≡_, refl, sym, ap, _∙_}
+-- Laws for the reader: what the definition gives for b and c, by the tests that the code makes of them.
+--
+--     bright-read, dim-read, on-read, off-read     where the tests hold: the house and unit taken out of b and c make b and c again
+--     no-step, no-switch                           where one does not: each command would pass it
+use mathlib.Core.Path.{_≡_, refl, sym, ap}
 use mathlib.Core.Bool.{true, _&&_}
 use mathlib.Core.List.{[], _∷_}
 use mathlib.Core.Logic.{_⊎_, inl, inr}
-use Prim.Native.Nat.{ℕ, _+_, _*_, _/_, _%_, _^_, _≤_, _<_}
+use Prim.Native.Nat.{ℕ, _+_, _*_, _/_, _%_, _<_}
 use native.Mathlib.Omega.{arith}
 use borrow.Author.Tests.{le-leb}
 use lib.Dec.{leb}
-use Rattle.radio.specs.Codes.{nibbleOf, houseOf, houseInB, unitInB, unitInC, byteB, byteC}
 use Rattle.message.specs.Numbers.{CODE}
+use Rattle.radio.specs.Codes.{houseOf, houseInB, unitInB, unitInC, byteB, byteC}
 use Rattle.radio.specs.Answers.{given, refused, codeAnswer}
 use Rattle.radio.specs.declared.RadioCommand.{RadioCommand}
 use Rattle.radio.specs.declared.RadioCommand.the-variants.{On, Off, Bright, Dim}
@@ -42,7 +45,7 @@ module _ (b c : ℕ) where
   unit-again : c < 128 → c % 8 ≡ 0 → unitInC (unitFrom b c) + c / 32 % 2 * 32 ≡ c
   unit-again l z = simp (unit-bits .four, unit-bits .two, unit-bits .one) (bits-again c l z)
 
--- ---- what the definition gives, by the tests that the reader makes
+-- ---- what the definition gives
 
 module _ (b c : ℕ) (small : b < 256) where
   pub bright-read : b % 16 ≡ 0 → c ≡ 136 → codeAnswer b c ≡ given (Bright (houseOf (b / 16)) ∷ [])

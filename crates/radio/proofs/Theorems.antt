@@ -7,15 +7,16 @@ use lib.ListN.{length, getD}
 use Rattle.message.specs.Numbers.{NONE}
 use Rattle.message.specs.Messages.{messageOk}
 use Rattle.message.specs.declared.Message.{Message}
-use Rattle.radio.specs.Codes.{commandOk, codes}
+use Rattle.radio.specs.Codes.{fourBytes, commandOk, codes}
 use Rattle.radio.specs.Answers.{given, writeAnswer, readAnswer, messagesOf, messagesAnswer}
 use Rattle.radio.specs.declared.RadioCommand.{RadioCommand}
 use Rattle.radio.proofs.CommandLaws.{every-mem}
-use Rattle.radio.proofs.AnswerLaws.{write-given, written-ok, read-given, accepted, codes-count, codes-one-to-one, codes-read, codes-only, all-valid}
+use Rattle.radio.proofs.AnswerLaws.{write-given, read-given, accepted, codes-count, codes-one-to-one, codes-read, codes-only, all-valid}
 
--- Reading what was written gives the command back: where the writer gives bytes for a command, the reader gives it for them.
-pub read-of-written : (k : RadioCommand) (code : List ℕ) → writeAnswer k ≡ given code → readAnswer code ≡ given (k ∷ [])
-read-of-written k code e = let w = written-ok k code e in ap readAnswer (sym (w .1)) ∙ read-given k (w .0)
+-- Reading what was written gives the command back: a command with house and unit 0 to 15 is written as four bytes, and these are
+-- read as that command.
+pub read-of-written : (k : RadioCommand) → commandOk k ≡ true → (writeAnswer k ≡ given (fourBytes k)) × (readAnswer (fourBytes k) ≡ given (k ∷ []))
+read-of-written k ok = (write-given k ok, read-given k ok)
 
 -- Writing what was read gives the four bytes back: where the reader gives a command for bytes, the writer gives them for it.
 pub written-of-read : (k : RadioCommand) (code : List ℕ) → readAnswer code ≡ given (k ∷ []) → writeAnswer k ≡ given code

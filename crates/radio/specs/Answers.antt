@@ -1,11 +1,12 @@
 -- What the routines on radio bytes answer (01, 'Radio bytes', 'Numbers given back').
 use Prim.Native.Nat.{ℕ, _-_}
-use mathlib.Core.Bool.{Bool, true, false, _&&_}
+use mathlib.Core.Bool.{Bool, _&&_}
 use mathlib.Core.List.{List, [], _∷_}
 use lib.Dec.{eqb}
 use lib.ListN.{length, getD}
 use Rattle.message.specs.Choice.{pick}
 use Rattle.message.specs.Numbers.{NONE, MESSAGE, RF-LENGTH, COMPLEMENT, CODE}
+use Rattle.message.specs.declared.Function.{Function}
 use Rattle.message.specs.declared.Function.the-variants.{On as FunctionOn, Off as FunctionOff, Bright as FunctionBright, Dim as FunctionDim}
 use Rattle.message.specs.declared.Message.{Message}
 use Rattle.message.specs.declared.Message.the-variants.{Address, Function as Command}
@@ -83,9 +84,12 @@ answerOfMessages (One m) = given (m ∷ [])
 answerOfMessages NoMessages = refused MESSAGE
 
 -- "On or off means two messages, address then function; bright and dim mean one."
+abbrev pub addressThen : ℕ → ℕ → Function → List Message
+addressThen h u f = Address h u ∷ Command h f ∷ []
+
 abbrev pub messagesOf : RadioCommand → List Message
-messagesOf (On h u) = Address h u ∷ Command h FunctionOn ∷ []
-messagesOf (Off h u) = Address h u ∷ Command h FunctionOff ∷ []
+messagesOf (On h u) = addressThen h u FunctionOn
+messagesOf (Off h u) = addressThen h u FunctionOff
 messagesOf (Bright h) = Command h FunctionBright ∷ []
 messagesOf (Dim h) = Command h FunctionDim ∷ []
 

@@ -4,7 +4,7 @@ use message::Message;
 ghost use mathlib.Core.Path.{_≡_};
 ghost use Prim.Native.Nat.{_+_, _<_};
 ghost use Rattle.radio.specs.Codes.{nibbleOf, houseOf, commandOk, houseInB, unitInB, unitInC, byteB, byteC};
-ghost use Rattle.radio.specs.Answers.{given, answerOfWrite, writeAnswer, answerOfRead, readAnswer, codeAnswer, answerOfMessages, messagesOf, messagesAnswer};
+ghost use Rattle.radio.specs.Answers.{given, answerOfWrite, writeAnswer, answerOfRead, readAnswer, codeAnswer, answerOfMessages, addressThen, messagesOf, messagesAnswer};
 
 // What a transmitter sends. Houses A to P and units 1 to 16 are the numbers 0 to 15; a command with a house or a unit above
 // 15 is a value that routines refuse.
@@ -113,7 +113,7 @@ fn byte_c(command: RadioCommand) -> u8
     }
 }
 
-// The four bytes of a command.
+// The four bytes of a command: b, its complement, c, its complement. Refuses a house or unit above 15.
 pub fn write(command: RadioCommand) -> RadioBytes
     ensures { λ r. ⌜ answerOfWrite r ≡ writeAnswer command ⌝ }
 {
@@ -181,7 +181,8 @@ fn command_of(b: u8, c: u8) -> RadioRead
     }
 }
 
-// The command that four bytes name.
+// The command that four bytes name. Refuses what are not four bytes, then pairs that are not complementary, then bytes that no
+// command has.
 pub fn read(code: &[u8]) -> RadioRead
     ensures { λ r. ⌜ answerOfRead r ≡ readAnswer (now (code .entry)) ⌝ }
 {
@@ -199,31 +200,29 @@ pub fn read(code: &[u8]) -> RadioRead
     command_of(b, c)
 }
 
-// The messages of a command: an address and then on or off; or bright or dim alone.
+// An address, then a function.
+fn addressed(house: u8, unit: u8, function: Function) -> RadioMessages
+    ensures { λ r. ⌜ answerOfMessages r ≡ given (addressThen house unit function) ⌝ }
+{
+    RadioMessages::Two(
+        Message::Address {
+            house: house,
+            unit: unit,
+        },
+        Message::Function {
+            house: house,
+            function: function,
+        },
+    )
+}
+
+// The messages of a command.
 fn meaning(command: RadioCommand) -> RadioMessages
     ensures { λ r. ⌜ answerOfMessages r ≡ given (messagesOf command) ⌝ }
 {
     match command {
-        RadioCommand::On { house, unit } => RadioMessages::Two(
-            Message::Address {
-                house: house,
-                unit: unit,
-            },
-            Message::Function {
-                house: house,
-                function: Function::On,
-            },
-        ),
-        RadioCommand::Off { house, unit } => RadioMessages::Two(
-            Message::Address {
-                house: house,
-                unit: unit,
-            },
-            Message::Function {
-                house: house,
-                function: Function::Off,
-            },
-        ),
+        RadioCommand::On { house, unit } => addressed(house, unit, Function::On),
+        RadioCommand::Off { house, unit } => addressed(house, unit, Function::Off),
         RadioCommand::Bright { house } => RadioMessages::One(Message::Function {
             house: house,
             function: Function::Bright,
@@ -235,7 +234,7 @@ fn meaning(command: RadioCommand) -> RadioMessages
     }
 }
 
-// What a command means, as messages on the mains.
+// What a command means, as messages on the mains. Refuses a house or unit above 15.
 pub fn messages(command: RadioCommand) -> RadioMessages
     ensures { λ r. ⌜ answerOfMessages r ≡ messagesAnswer command ⌝ }
 {

@@ -102,7 +102,7 @@ readOf r h =
     (pick (eqb (r .past % 2) h) (says BrokenPair (hunting (shifted (r .past) h)))
     (pairOf r (r .bits % 268435456 * 2 + r .past % 2) (shifted (r .past) h)))
 
--- one half-cycle of 0 or 1 in a state that can be
+-- one half-cycle of 0 or 1 in a state that is not refused
 unfoldable pub takesOf : Receiver → ℕ → Heard
 takesOf r h = pick (eqb (r .at) 0) (huntOf (r .past) h) (pick (leb (r .at) 4) (awaitOf r h) (readOf r h))
 

@@ -24,7 +24,7 @@ pub enum Given {
 pub struct Receiver {
     // The last six half-cycles as one number, the latest lowest; all ones before any has come.
     pub past: u8,
-    // 0 while hunting, else one more than the half-cycles of this frame that have come.
+    // 0 while hunting, else the place in its frame of the half-cycle that comes next, counted from 1.
     pub at: u8,
     // The bits of the pairs that have come, the latest lowest.
     pub bits: u32,
@@ -42,7 +42,7 @@ pub enum Event {
     BrokenUnsupported,
     // The half-cycle is not 0 or 1.
     RefusedHalf,
-    // The receiver is in no state that it can be in.
+    // A kept half-cycle is not 0 or 1, there are more pairs than the frame has, or a house or unit is above 15.
     RefusedState,
 }
 
@@ -58,8 +58,8 @@ pub fn fresh() -> Receiver
     hunts(63)
 }
 
-// One half-cycle: what it says, and the receiver for the next. A half-cycle above 1, or a receiver in no state that it can be
-// in, is refused, and the receiver is then handed back as it was.
+// One half-cycle: what it says, and the receiver for the next. A half-cycle that is not 0 or 1 and a receiver in a state that is
+// refused leave the receiver as it was.
 pub fn step(r: Receiver, half: u8) -> Heard
     ensures { λ o. ⌜ o ≡ stepOf r half ⌝ }
     ensures { λ o. ⌜ eventNumber (o .event) ≡ stepNumber r half ⌝ }
@@ -126,7 +126,7 @@ fn given_valid(given: Given) -> bool
     }
 }
 
-// Whether a receiver is in a state that it can be in.
+// Whether a receiver is in none of the states that are refused.
 fn acceptable(r: Receiver) -> bool
     ensures { λ b. ⌜ b ≡ receiverOk r ⌝ }
 {
@@ -277,7 +277,7 @@ fn reads(r: Receiver, half: u8) -> Heard
     pair(r, r.bits % 268435456 * 2 + first as u32, past)
 }
 
-// A half-cycle of 0 or 1, in a state that can be.
+// A half-cycle of 0 or 1, in a state that is not refused.
 fn takes(r: Receiver, half: u8) -> Heard
     requires { ⌜ (half ≤ 1) × (r .at ≤ 62) ⌝ }
     ensures { λ o. ⌜ o ≡ takesOf r half ⌝ }

@@ -20,7 +20,7 @@ use Rattle.record.specs.declared.Record.{Record}
 use Rattle.record.specs.declared.Act.{Act}
 use Rattle.record.specs.declared.Act.the-variants.{Nothing, Address, Obey, Join, Level, JoinAt, UnitsOn, UnitsOff, Leave, LeaveHouse, Execute, GroupOff, GroupDim, GroupBright}
 use Rattle.record.specs.Layout.{present, lamp, appliance, bit, member, preset, maskOf, withLevel, withAddressed, regroup}
-use Rattle.record.specs.ModuleTable.{levelOk, groupOk, allZeros, recordOk, relevel, lit, dimmed, brightened, addressed, obeyed, group, levelB, joined, left, acted, stepRecord}
+use Rattle.record.specs.ModuleTable.{levelOk, presetOk, allZeros, recordOk, relevel, lit, dimmed, brightened, addressed, obeyed, group, levelB, joined, left, acted, stepRecord}
 
 pub pick-both {ℓ} : {A : Type 0} (P : A → Type ℓ) (b : Bool) (x y : A) → P x → P y → P (pick b x y)
 pick-both P true x y px py = px
@@ -31,13 +31,17 @@ both {a} {b} p q = and-eq-true-iff a b .1 (p, q)
 
 -- ---- the rules, one by one
 
+-- a record in one of its groups
+abbrev groupOk : ℕ → Record → Bool
+groupOk k r = presetOk (r .kind) (member k r) (preset k r)
+
 -- the four groups of a record, as their members and presets are told
 abbrev Groups : Record → (ℕ → Bool) → (ℕ → ℕ) → Type 0
-Groups r mem pre = (k : ℕ) → k < 4 → (levelOk r (pre k) && (mem k || eqb (pre k) 0)) ≡ true
+Groups r mem pre = (k : ℕ) → k < 4 → presetOk (r .kind) (mem k) (pre k) ≡ true
 
 pub record Good (r : Record) : Type 0 where
   pub kind : leb (r .kind) 2 ≡ true
-  pub level : levelOk r (r .level) ≡ true
+  pub level : levelOk (r .kind) (r .level) ≡ true
   pub mark : leb (r .addressed) 1 ≡ true
   pub mask : leb (r .mask) 15 ≡ true
   pub groups : Groups r (λ k. member k r) (λ k. preset k r)
@@ -68,7 +72,7 @@ pub good : (r : Record) → recordOk r ≡ true → Good r
 unfolding recordOk
 good r e =
     let parts =
-    nine (leb (r .kind) 2) (levelOk r (r .level)) (leb (r .addressed) 1) (leb (r .mask) 15)
+    nine (leb (r .kind) 2) (levelOk (r .kind) (r .level)) (leb (r .addressed) 1) (leb (r .mask) 15)
     (groupOk 0 r) (groupOk 1 r) (groupOk 2 r) (groupOk 3 r) (present r || allZeros r) e in
     record {
       kind = parts .0;
@@ -86,51 +90,51 @@ good-is-ok r g =
 
 -- ---- levels that a module can have
 
-pub full-ok : (r : Record) → levelOk r 63 ≡ true
+pub full-ok : (r : Record) → levelOk (r .kind) 63 ≡ true
 full-ok r = or-true (not (appliance r) || false)
 
-pub dark-ok : (r : Record) → levelOk r 0 ≡ true
+pub dark-ok : (r : Record) → levelOk (r .kind) 0 ≡ true
 dark-ok r = go (appliance r)
   where
     go : (b : Bool) → (not b || true || false) ≡ true
     go true = refl
     go false = refl
 
-pub lit-ok : (r : Record) (l : ℕ) → levelOk r l ≡ true → levelOk r (lit l) ≡ true
-lit-ok r l e = pick-both (λ x. levelOk r x ≡ true) (eqb l 0) 63 l (full-ok r) e
+pub lit-ok : (r : Record) (l : ℕ) → levelOk (r .kind) l ≡ true → levelOk (r .kind) (lit l) ≡ true
+lit-ok r l e = pick-both (λ x. levelOk (r .kind) x ≡ true) (eqb l 0) 63 l (full-ok r) e
 
 -- a lamp can have any level up to 63
-lamp-ok : (r : Record) (x : ℕ) → lamp r ≡ true → x ≤ 63 → levelOk r x ≡ true
+lamp-ok : (r : Record) (x : ℕ) → lamp r ≡ true → x ≤ 63 → levelOk (r .kind) x ≡ true
 lamp-ok r x e h = rw (le-leb x 63 h, eqb-true (r .kind) 1 e)
 
 -- a level that a module can have is at most 63
-at-most : (r : Record) (x : ℕ) → levelOk r x ≡ true → x ≤ 63
+at-most : (r : Record) (x : ℕ) → levelOk (r .kind) x ≡ true → x ≤ 63
 at-most r x e = leb-true x 63 (and-eq-true-iff (leb x 63) (not (appliance r) || eqb x 0 || eqb x 63) .0 e .0)
 
-pub dimmed-ok : (r : Record) → lamp r ≡ true → levelOk r (r .level) ≡ true → levelOk r (dimmed (r .level)) ≡ true
+pub dimmed-ok : (r : Record) → lamp r ≡ true → levelOk (r .kind) (r .level) ≡ true → levelOk (r .kind) (dimmed (r .level)) ≡ true
 dimmed-ok r e h =
     let low : lit (r .level) ≤ 63 = at-most r (lit (r .level)) (lit-ok r (r .level) h) in
     lamp-ok r (dimmed (r .level)) e (omega arith)
 
-pub brightened-ok : (r : Record) → lamp r ≡ true → levelOk r (brightened (r .level)) ≡ true
+pub brightened-ok : (r : Record) → lamp r ≡ true → levelOk (r .kind) (brightened (r .level)) ≡ true
 brightened-ok r e = lamp-ok r (brightened (r .level)) e (omega arith)
 
-pub levelB-ok : (d : ℕ) (r : Record) → levelOk r (levelB d r) ≡ true
+pub levelB-ok : (d : ℕ) (r : Record) → levelOk (r .kind) (levelB d r) ≡ true
 levelB-ok d r = go (appliance r) refl (eqb (d % 64) 0) refl
   where
     low : leb (d % 64) 63 ≡ true
     low = le-leb (d % 64) 63 (omega arith)
 
-    go : (a : Bool) → appliance r ≡ a → (z : Bool) → eqb (d % 64) 0 ≡ z → levelOk r (levelB d r) ≡ true
+    go : (a : Bool) → appliance r ≡ a → (z : Bool) → eqb (d % 64) 0 ≡ z → levelOk (r .kind) (levelB d r) ≡ true
     go true e true z = simp (e, z, low)
     go true e false z = simp (e, z)
     go false e z f = simp (e, low)
 
-pub preset-ok : (r : Record) → Good r → (g : ℕ) → levelOk r (preset g r) ≡ true
+pub preset-ok : (r : Record) → Good r → (g : ℕ) → levelOk (r .kind) (preset g r) ≡ true
 preset-ok r good g =
-    let own : (k : ℕ) → k < 4 → levelOk r (preset k r) ≡ true =
-    λ k h. and-eq-true-iff (levelOk r (preset k r)) (member k r || eqb (preset k r) 0) .0 (good .groups k h) .0 in
-    let P : ℕ → Type 0 = λ x. levelOk r x ≡ true in
+    let own : (k : ℕ) → k < 4 → levelOk (r .kind) (preset k r) ≡ true =
+    λ k h. and-eq-true-iff (levelOk (r .kind) (preset k r)) (member k r || eqb (preset k r) 0) .0 (good .groups k h) .0 in
+    let P : ℕ → Type 0 = λ x. levelOk (r .kind) x ≡ true in
     pick-both P (eqb g 0) (r .preset0) _ (own 0 (omega arith))
     (pick-both P (eqb g 1) (r .preset1) _ (own 1 (omega arith))
     (pick-both P (eqb g 2) (r .preset2) (r .preset3) (own 2 (omega arith)) (own 3 (omega arith))))
@@ -139,7 +143,7 @@ preset-ok r good g =
 
 module _ (r : Record) (g : Good r) (here : present r ≡ true) where
   -- another level, where the test holds
-  pub relevel-good : (b : Bool) (x : ℕ) → (b ≡ true → levelOk r x ≡ true) → Good (relevel b x r)
+  pub relevel-good : (b : Bool) (x : ℕ) → (b ≡ true → levelOk (r .kind) x ≡ true) → Good (relevel b x r)
   relevel-good true x h =
       record { kind = g .kind; level = h refl; mark = g .mark; mask = g .mask; groups = g .groups; zeros = rw here }
   relevel-good false x h = g
@@ -173,7 +177,7 @@ module _ (r : Record) (g : Good r) (here : present r ≡ true) where
   pub regroup-good : (mem : ℕ → Bool) (pre : ℕ → ℕ) → Groups r mem pre → Good (regroup mem pre r)
   regroup-good mem pre h =
       let bits = mask-bits (mem 0) (mem 1) (mem 2) (mem 3) in
-      let at : (k : ℕ) → k < 4 → (m : Bool) → m ≡ mem k → (levelOk r (pre k) && (m || eqb (pre k) 0)) ≡ true =
+      let at : (k : ℕ) → k < 4 → (m : Bool) → m ≡ mem k → presetOk (r .kind) m (pre k) ≡ true =
       λ k hk m e. rw e (h k hk) in
       record {
         kind = g .kind;
@@ -189,13 +193,13 @@ module _ (r : Record) (g : Good r) (here : present r ≡ true) where
         zeros = rw here;
       }
 
-  pub joined-good : (j x : ℕ) → levelOk r x ≡ true → Good (joined j x r)
+  pub joined-good : (j x : ℕ) → levelOk (r .kind) x ≡ true → Good (joined j x r)
   unfolding joined
   joined-good j x h =
       regroup-good (λ k. eqb j k || member k r) (λ k. pick (eqb j k) x (preset k r))
       (λ k hk. go k (eqb j k) (g .groups k hk))
     where
-      go : (k : ℕ) (b : Bool) → groupOk k r ≡ true → (levelOk r (pick b x (preset k r)) && ((b || member k r) || eqb (pick b x (preset k r)) 0)) ≡ true
+      go : (k : ℕ) (b : Bool) → groupOk k r ≡ true → presetOk (r .kind) (b || member k r) (pick b x (preset k r)) ≡ true
       go k true e = rw h
       go k false e = e
 
@@ -205,7 +209,7 @@ module _ (r : Record) (g : Good r) (here : present r ≡ true) where
       regroup-good (λ k. member k r && not (bit k d)) (λ k. pick (bit k d) 0 (preset k r))
       (λ k hk. go k (bit k d) (g .groups k hk))
     where
-      go : (k : ℕ) (b : Bool) → groupOk k r ≡ true → (levelOk r (pick b 0 (preset k r)) && (member k r && not b || eqb (pick b 0 (preset k r)) 0)) ≡ true
+      go : (k : ℕ) (b : Bool) → groupOk k r ≡ true → presetOk (r .kind) (member k r && not b) (pick b 0 (preset k r)) ≡ true
       go k true e = both (dark-ok r) (or-true (member k r && false))
       go k false e = rw (and-true (member k r)) e
 

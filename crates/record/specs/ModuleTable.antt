@@ -20,24 +20,26 @@ use Rattle.record.specs.Layout.{RECORDS, UNITS, HOUSES, HEARD-AT, TABLE-
 -- ---- The rules of a valid table
 
 -- "level 0..63", "four presets 0..63", "An appliance's level and presets are 0 or 63."
-abbrev pub levelOk : Record → ℕ → Bool
-levelOk r x = leb x 63 && (not (appliance r) || eqb x 0 || eqb x 63)
+abbrev pub levelOk : ℕ → ℕ → Bool
+levelOk kind x = leb x 63 && (not (eqb kind 2) || eqb x 0 || eqb x 63)
 
 -- "A non-member's preset is 0."
-abbrev pub groupOk : ℕ → Record → Bool
-groupOk g r = levelOk r (preset g r) && (member g r || eqb (preset g r) 0)
+abbrev pub presetOk : ℕ → Bool → ℕ → Bool
+presetOk kind joined x = levelOk kind x && (joined || eqb x 0)
 
 -- "Kind 0 is all zeros."
 abbrev pub allZeros : Record → Bool
 allZeros r =
-    eqb (r .kind) 0 && eqb (r .level) 0 && eqb (r .addressed) 0 && eqb (r .mask) 0
+    eqb (r .level) 0 && eqb (r .addressed) 0 && eqb (r .mask) 0
     && eqb (r .preset0) 0 && eqb (r .preset1) 0 && eqb (r .preset2) 0 && eqb (r .preset3) 0
 
--- "Record: kind .., level 0..63, addressed 0 or 1, group mask 0..15 .., four presets 0..63"
+-- "Record: kind (0 none, 1 lamp, 2 appliance), level .., addressed 0 or 1, group mask 0..15 .., four presets .."
 unfoldable pub recordOk : Record → Bool
 recordOk r =
-    leb (r .kind) 2 && levelOk r (r .level) && leb (r .addressed) 1 && leb (r .mask) 15
-    && groupOk 0 r && groupOk 1 r && groupOk 2 r && groupOk 3 r && (present r || allZeros r)
+    leb (r .kind) 2 && levelOk (r .kind) (r .level) && leb (r .addressed) 1 && leb (r .mask) 15
+    && presetOk (r .kind) (member 0 r) (r .preset0) && presetOk (r .kind) (member 1 r) (r .preset1)
+    && presetOk (r .kind) (member 2 r) (r .preset2) && presetOk (r .kind) (member 3 r) (r .preset3)
+    && (present r || allZeros r)
 
 -- a test at every number below n
 unfoldable pub allBelow : ℕ → (ℕ → Bool) → Bool

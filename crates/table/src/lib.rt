@@ -12,7 +12,7 @@ ghost use mathlib.Core.Path.{_≡_};
 ghost use Prim.Native.Nat.{_<_};
 ghost use lib.ListN.{length};
 ghost use Rattle.record.specs.Layout.{RECORDS, HOUSES, UNITS, TABLE-BYTES, recordAt, put, heardAt};
-ghost use Rattle.record.specs.ModuleTable.{recordsOk, housesOk, tableOk, stepHouse, changed};
+ghost use Rattle.record.specs.ModuleTable.{recordOk, recordsOk, housesOk, tableOk, stepHouse, changed};
 ghost use Rattle.table.specs.Lent.{Stepped, ranIn};
 
 // Record i of a table.
@@ -49,6 +49,24 @@ fn store(t: &mut [u8], i: usize, r: Record)
     t[at + 7] = r.preset3;
 }
 
+// Whether record i of a table keeps the rules.
+fn record_ok(t: &[u8], i: usize) -> bool
+    requires { ⌜ (length (now t) ≡ TABLE-BYTES) × (i < RECORDS) ⌝ }
+    ensures { λ r. ⌜ r ≡ recordOk (recordAt (now (t .entry)) i) ⌝ }
+{
+    let at = i * RECORD_BYTES;
+    record::valid(
+        t[at],
+        t[at + 1],
+        t[at + 2],
+        t[at + 3],
+        t[at + 4],
+        t[at + 5],
+        t[at + 6],
+        t[at + 7],
+    )
+}
+
 // Whether each record keeps the rules. Every one is tested: with no early way out the tests run side by side.
 fn records_ok(t: &[u8]) -> bool
     requires { ⌜ length (now t) ≡ TABLE-BYTES ⌝ }
@@ -57,7 +75,7 @@ fn records_ok(t: &[u8]) -> bool
     let mut ok = true;
     let mut i = 0;
     while i < RECORDS {
-        ok = ok & record::valid(load(t, i));
+        ok = ok & record_ok(t, i);
         i += 1;
     }
     ok

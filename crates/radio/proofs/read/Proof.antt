@@ -21,7 +21,7 @@ shared-slice-read-if2 : tie.Need-shared-slice-read-if2
 shared-slice-read-if2 c = search needs
 
 sub-if2 : tie.Need-sub-if2
-sub-if2 c = omega (arith, c .before .before .shared-slice-known2 .given 0)
+sub-if2 c = omega (arith, c .shared-slice-known4 .given 0)
 
 returns-2 : tie.Need-returns-2
 unfolding readAnswer
@@ -31,7 +31,7 @@ shared-slice-read-if3 : tie.Need-shared-slice-read-if3
 shared-slice-read-if3 c = search needs
 
 sub-if3 : tie.Need-sub-if3
-sub-if3 c = omega (arith, c .before .before .before .shared-slice-known3 .given 2)
+sub-if3 c = omega (arith, c .shared-slice-known5 .given 0, c .shared-slice-known5 .given 2)
 
 returns-3 : tie.Need-returns-3
 unfolding readAnswer

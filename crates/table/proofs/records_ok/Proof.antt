@@ -1,7 +1,6 @@
 -- `records_ok` meets its contract. The loop's invariant: so far the test is that of the records passed.
 use mathlib.Core.Path.{_≡_, refl, ap, _∙_}
 use Prim.Native.Nat.{ℕ, _≤_, _-_}
-use borrow.Author.Needs.{needs}
 use native.Mathlib.Omega.{arith}
 use native.Mathlib.Numerals.{add-one}
 use Rattle.record.specs.Layout.{RECORDS}
@@ -19,11 +18,8 @@ loop-holds : tie.Need-loop-holds Inv-loop μ-loop
 unfolding allBelow
 loop-holds c = (omega arith, refl)
 
-load-requires : tie.Need-load-requires Inv-loop μ-loop
-load-requires c κs = (c .before .before .before .pre, c .loop-test .taken)
-
-valid-requires : tie.Need-valid-requires Inv-loop μ-loop
-valid-requires c κs = search needs
+record-ok-requires : tie.Need-record-ok-requires Inv-loop μ-loop
+record-ok-requires c κs = (c .before .before .before .pre, c .loop-test .taken)
 
 add-i : tie.Need-add-i Inv-loop μ-loop
 add-i c = omega arith
@@ -34,7 +30,7 @@ loop-less c = omega arith
 loop-again : tie.Need-loop-again Inv-loop μ-loop
 unfolding allBelow
 loop-again c =
-    (omega arith, simp (add-one, c .before .before .before .loop .inv .1, c .valid .ensures, c .before .load .ensures))
+    (omega arith, simp (add-one, c .before .before .loop .inv .1, c .record-ok .ensures))
 
 returns : tie.Need-returns Inv-loop μ-loop
 returns c =
@@ -48,8 +44,7 @@ records-ok-spec =
     Inv-loop
     μ-loop
     loop-holds
-    load-requires
-    valid-requires
+    record-ok-requires
     add-i
     loop-less
     loop-again

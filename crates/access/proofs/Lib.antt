@@ -1,0 +1,13 @@
+pub mod BurstLaws
+pub mod Turns
+pub mod StationStates
+pub mod PartHeard
+pub mod BenchLaws
+pub mod Tally
+pub mod Moments
+pub mod BurstCalls
+pub mod WholeList
+pub mod Compare
+pub mod Tracks
+pub mod StartTogether
+pub mod BoundReached

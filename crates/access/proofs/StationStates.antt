@@ -1,0 +1,272 @@
+-- How a station of the bench stands while a burst is on the line, and what a half-cycle makes of it. All that wait have counted alike, and
+-- all that send have sent the same.
+--
+--     Front, Follows          a message's burst begins with what was sent; and is not over
+--     Sending, Stands, stands-ok     the three ways in which a station stands: gone, waiting, sending
+--     sending-half, sends-half, who-sends     what such a station sends
+--     vacant                  1 for an empty station
+--     ends-here, sends-still  a station that sends what is heard, at its burst's end and before
+--     Outcome, outcome        what a half-cycle makes of a station, by the line's half-cycle
+--     keeps-sending, is-over  a burst that goes on, and one that ends, leave the stations standing so
+--     counts-on               a clear half-cycle while none sends
+use mathlib.Core.Path.{_≡_, refl, sym, ap, ap₂, _∙_}
+use mathlib.Core.Bool.{Bool, true, false, false≢true}
+use mathlib.Core.List.{List, [], _∷_, _++_}
+use Prim.Native.Nat.{ℕ, zero, suc, _+_, _≤_, _<_}
+use native.Mathlib.Numerals.{add-one}
+use native.Mathlib.Decide.{ℕ-discrete}
+use native.Mathlib.Omega.{arith}
+use lib.ListN.{length, getD, take, length-append}
+use lib.Seq.{take-suc, take-all, take-take, take-append-seam, getD-take, getD-append-seam}
+use Rattle.message.specs.Choice.{pick}
+use Rattle.message.specs.Messages.{messageOk}
+use Rattle.message.specs.declared.Message.{Message}
+use Rattle.burst.specs.Frames.{burstOf, burstLength}
+use Rattle.burst.proofs.FrameLaws.{burst-length, burst-halves}
+use Rattle.station.specs.declared.Station.{Station}
+use Rattle.station.specs.declared.Turn.{Turn}
+use Rattle.station.specs.declared.TurnAnswer.the-variants.{Done}
+use Rattle.station.specs.Stations.{emptyStation, drawOk, stationOk, isEmpty, sendsOf, turnOf, isDone}
+use Rattle.access.proofs.BurstLaws.{burst-some, burst-first, counted}
+use Rattle.access.proofs.Turns.{holding, goes, next-of, done-of, drawn, empty-turn, waiting-ok, sending-ok, waiting-sends, sending-sends, waiting-turn, ends-turn, sends-turn, yields-turn}
+
+-- the burst of m begins with what was sent
+abbrev pub Front : Message → List ℕ → Type 0
+Front m sent = take (length sent) (burstOf m) ≡ sent
+
+-- and has more to come
+pub record Follows (m : Message) (sent : List ℕ) : Type 0 where
+  pub front : Front m sent
+  pub more : length sent < burstLength m
+
+length-more : (sent : List ℕ) (h : ℕ) → length (sent ++ h ∷ []) ≡ length sent + 1
+length-more sent h = length-append sent (h ∷ [])
+
+-- one half-cycle more, as the burst has it
+pub front-more : (m : Message) (sent : List ℕ) (h : ℕ) → Follows m sent → getD (burstOf m) (length sent) 0 ≡ h → Front m (sent ++ h ∷ [])
+front-more m sent h f e =
+    ap (λ (k : ℕ). take k (burstOf m)) (length-more sent h ∙ add-one (length sent))
+    ∙ take-suc (burstOf m) (length sent) 0 (omega (arith, burst-length m, f .more))
+    ∙ ap₂ (λ (l : List ℕ) (x : ℕ). l ++ x ∷ []) (f .front) e
+
+-- and back
+pub front-less : (m : Message) (sent : List ℕ) (h : ℕ) → Front m (sent ++ h ∷ []) → length sent < burstLength m
+    → Follows m sent × (getD (burstOf m) (length sent) 0 ≡ h)
+front-less m sent h f l =
+    let k : ℕ = length sent in
+    let e : take (suc k) (burstOf m) ≡ sent ++ h ∷ [] = ap (λ (k : ℕ). take k (burstOf m)) (sym (length-more sent h ∙ add-one k)) ∙ f in (
+      record { front = sym (take-take k (suc k) (burstOf m) (omega arith)) ∙ ap (take k) e ∙ take-append-seam sent (h ∷ []); more = l },
+      sym (getD-take (suc k) (burstOf m) k 0 (omega arith)) ∙ ap (λ (l : List ℕ). getD l k 0) e ∙ getD-append-seam sent h [] 0,
+    )
+
+pub whole : (m : Message) (sent : List ℕ) → Front m sent → length sent ≡ burstLength m → burstOf m ≡ sent
+whole m sent f e = sym (take-all (length sent) (burstOf m) (omega (arith, burst-length m))) ∙ f
+
+-- ---- the three ways
+
+-- a station that has sent what is on the line, and sends on; one that has yet to begin has counted its wait
+pub record Sending (m : Message) (sent : List ℕ) (z : ℕ) (s : Station) : Type 0 where
+  pub wait : ℕ
+  pub drawn-wait : drawOk wait ≡ true
+  pub begun : length sent ≡ 0 → wait ≡ z
+  pub follows : Follows m sent
+  pub is : s ≡ holding m wait wait (length sent)
+
+-- the half-cycles of a burst so far are sent, and z clear ones were heard last
+pub data Stands (m : Message) (sent : List ℕ) (z : ℕ) (s : Station) : Type 0 where
+  gone : s ≡ emptyStation → Stands m sent z s
+  waiting : (w : ℕ) → drawOk w ≡ true → z < w → s ≡ holding m w z 0 → Stands m sent z s
+  sends : Sending m sent z s → Stands m sent z s
+
+abbrev pub mark : Bool → ℕ
+mark b = pick b 1 0
+
+abbrev pub vacant : Station → ℕ
+vacant s = mark (isEmpty (s .held))
+
+module _ (m : Message) (valid : messageOk m ≡ true) (sent : List ℕ) (z : ℕ) where
+  pub stands-ok : (s : Station) → Stands m sent z s → stationOk s ≡ true
+  unfolding stationOk
+  stands-ok s (gone e) = ap stationOk e
+  stands-ok s (waiting w d l e) = ap stationOk e ∙ waiting-ok m w valid d z (omega arith)
+  stands-ok s (sends x) = ap stationOk (x .is) ∙ sending-ok m (x .wait) valid (x .drawn-wait) (length sent) (x .follows .more)
+
+  -- what a station sends is the next half-cycle of its burst, or nothing
+  pub sending-half : (s : Station) → Sending m sent z s → sendsOf s ≡ getD (burstOf m) (length sent) 0
+  sending-half s x = ap sendsOf (x .is) ∙ sending-sends m (x .wait) valid (x .drawn-wait) (length sent)
+
+  pub sends-half : (s : Station) → Stands m sent z s → sendsOf s ≤ 1
+  unfolding sendsOf
+  sends-half s (gone e) = omega (arith, ap sendsOf e)
+  sends-half s (waiting w d l e) = omega (arith, ap sendsOf e ∙ waiting-sends m w valid d z l)
+  sends-half s (sends x) = omega (arith, sending-half s x, burst-halves m (length sent))
+
+  pub who-sends : (s : Station) → Stands m sent z s → 1 ≤ sendsOf s → Sending m sent z s
+  unfolding sendsOf
+  who-sends s (gone e) l = absurd (omega (arith, ap sendsOf e))
+  who-sends s (waiting w d u e) l = absurd (omega (arith, ap sendsOf e ∙ waiting-sends m w valid d z u))
+  who-sends s (sends x) l = x
+
+-- ---- one half-cycle
+
+-- h has been heard: sent is on the line with it, and those that wait have counted to z
+pub data Outcome (m : Message) (sent : List ℕ) (z : ℕ) (s : Station) (t : Turn) : Type 0 where
+  still-gone : s ≡ emptyStation → t ≡ goes emptyStation → Outcome m sent z s t
+  waits-on : (w : ℕ) → drawOk w ≡ true → z < w → vacant s ≡ 0 → t ≡ goes (holding m w z 0) → Outcome m sent z s t
+  sends-on : (w : ℕ) → drawOk w ≡ true → Follows m sent → vacant s ≡ 0 → t ≡ goes (holding m w w (length sent)) → Outcome m sent z s t
+  ends : burstOf m ≡ sent → vacant s ≡ 0 → t ≡ record { answer = Done; next = emptyStation } → Outcome m sent z s t
+
+module _ (m : Message) (valid : messageOk m ≡ true) (sent : List ℕ) (z : ℕ) (s : Station) where
+  abbrev After : ℕ → ℕ → Type 0
+  After h d = Outcome m (sent ++ h ∷ []) (counted z h) s (turnOf s h d)
+
+  holds : {w c p : ℕ} → s ≡ holding m w c p → vacant s ≡ 0
+  holds e = ap vacant e
+
+  -- a station that waits, at a clear half-cycle and at a 1
+  waits-clear : (d w : ℕ) → drawOk d ≡ true → drawOk w ≡ true → z < w → z + 1 < 8 → s ≡ holding m w z 0 → After 0 d
+  waits-clear d w hd hw l b e =
+      waits-on w hw (omega (arith, drawn w hw)) (holds e) (ap (λ (s : Station). turnOf s 0 d) e ∙ waiting-turn m w valid hw 0 d (omega arith) hd z l)
+
+  waits-one : (d w : ℕ) → drawOk d ≡ true → drawOk w ≡ true → z < w → s ≡ holding m w z 0 → After 1 d
+  waits-one d w hd hw l e =
+      waits-on d hd (omega (arith, drawn d hd)) (holds e) (ap (λ (s : Station). turnOf s 1 d) e ∙ waiting-turn m w valid hw 1 d (omega arith) hd z l)
+
+  module _ (h d : ℕ) (low : h ≤ 1) (hd : drawOk d ≡ true) (x : Sending m sent z s) where
+    abbrev half : ℕ
+    half = getD (burstOf m) (length sent) 0
+
+    turned : {t : Turn} → turnOf (holding m (x .wait) (x .wait) (length sent)) h d ≡ t → turnOf s h d ≡ t
+    turned e = ap (λ (s : Station). turnOf s h d) (x .is) ∙ e
+
+    -- a station that sends what is heard: at the burst's end, and before
+    pub ends-here : half ≡ h → length sent + 1 ≡ burstLength m → turnOf s h d ≡ record { answer = Done; next = emptyStation }
+    ends-here same p = turned (ends-turn m (x .wait) valid (x .drawn-wait) h d low hd (length sent) (x .follows .more) same p)
+
+    sends-here : half ≡ h → (length sent + 1 ≡ burstLength m → ⊥)
+        → turnOf s h d ≡ goes (holding m (x .wait) (x .wait) (length (sent ++ h ∷ [])))
+    sends-here same p =
+        turned (sends-turn m (x .wait) valid (x .drawn-wait) h d low hd (length sent) (x .follows .more) same p)
+        ∙ ap (λ (k : ℕ). goes (holding m (x .wait) (x .wait) k)) (sym (length-more sent h))
+
+    goes-further : half ≡ h → (length sent + 1 ≡ burstLength m → ⊥) → Follows m (sent ++ h ∷ [])
+    goes-further same p = record {
+      front = front-more m sent h (x .follows) same;
+      more = omega (arith, length-more sent h, x .follows .more);
+    }
+
+    pub sends-still : half ≡ h → (length sent + 1 ≡ burstLength m → ⊥) → (z′ : ℕ) → Sending m (sent ++ h ∷ []) z′ (turnOf s h d .next)
+    sends-still same p z′ = record {
+      wait = x .wait;
+      drawn-wait = x .drawn-wait;
+      begun = λ e. absurd (omega (arith, length-more sent h));
+      follows = goes-further same p;
+      is = next-of (sends-here same p);
+    }
+
+    carries-on : half ≡ h → Dec (length sent + 1 ≡ burstLength m) → After h d
+    carries-on same (yes p) =
+        ends (whole m (sent ++ h ∷ []) (front-more m sent h (x .follows) same) (length-more sent h ∙ p)) (holds (x .is)) (ends-here same p)
+    carries-on same (no p) =
+        sends-on (x .wait) (x .drawn-wait) (goes-further same p) (holds (x .is)) (sends-here same p)
+
+    -- a station that sends 0 and hears 1
+    gives-way : half < h → After h d
+    gives-way less =
+        let one : h ≡ 1 = omega arith in
+        let none : counted z h ≡ 0 = ap (counted z) one in
+        waits-on d hd (omega (arith, none, drawn d hd)) (holds (x .is))
+        (turned (yields-turn m (x .wait) valid (x .drawn-wait) h d low hd (length sent) (x .follows .more) less)
+        ∙ ap (λ (c : ℕ). goes (holding m d c 0)) (sym none))
+
+    sent-or-not : Dec (half ≡ h) → half ≤ h → After h d
+    sent-or-not (yes p) l = carries-on p (ℕ-discrete (length sent + 1) (burstLength m))
+    sent-or-not (no p) l = gives-way (omega arith)
+
+  module _ (d : ℕ) (hd : drawOk d ≡ true) where
+    pub outcome : (h : ℕ) → h ≤ 1 → sendsOf s ≤ h → (h ≡ 0 → z + 1 < 8) → Stands m sent z s → After h d
+    outcome h low u b (gone e) = still-gone e (ap (λ (s : Station). turnOf s h d) e ∙ empty-turn h d low hd)
+    outcome zero low u b (waiting w hw l e) = waits-clear d w hd hw l (b refl) e
+    outcome (suc zero) low u b (waiting w hw l e) = waits-one d w hd hw l e
+    outcome (suc (suc h)) low u b (waiting w hw l e) = absurd (omega arith)
+    outcome h low u b (sends x) =
+        sent-or-not h d low hd x (ℕ-discrete (getD (burstOf m) (length sent) 0) h) (omega (arith, sending-half m valid sent z s x))
+
+-- ---- what the half-cycle leaves
+
+-- a station stands so again, and is newly vacant exactly where it said DONE
+pub record Settles (m : Message) (sent : List ℕ) (z : ℕ) (s : Station) (t : Turn) : Type 0 where
+  pub stands : Stands m sent z (t .next)
+  pub empties : vacant (t .next) ≡ mark (isDone (t .answer)) + vacant s
+
+-- said nothing, and as vacant as before
+quietly : (s : Station) {s′ : Station} {t : Turn} → t ≡ goes s′ → vacant s ≡ vacant s′ → vacant (t .next) ≡ mark (isDone (t .answer)) + vacant s
+quietly s {s′} {t} e v =
+    let silent : mark (isDone (t .answer)) ≡ 0 = ap mark (done-of e) in
+    let same : vacant (t .next) ≡ vacant s′ = ap vacant (next-of e) in
+    omega arith
+
+settles-gone : {m : Message} {sent : List ℕ} {z : ℕ} {s : Station} {t : Turn} → s ≡ emptyStation → t ≡ goes emptyStation → Settles m sent z s t
+settles-gone {s = s} e p = record { stands = gone (next-of p); empties = quietly s p (ap vacant e) }
+
+settles-waiting : {m : Message} {sent : List ℕ} {z : ℕ} {s : Station} {t : Turn} (w : ℕ) → drawOk w ≡ true → z < w → vacant s ≡ 0
+    → t ≡ goes (holding m w z 0) → Settles m sent z s t
+settles-waiting {s = s} w d l v p = record { stands = waiting w d l (next-of p); empties = quietly s p v }
+
+-- the burst goes on: nothing is over
+pub keeps-sending : {m : Message} {sent : List ℕ} {z : ℕ} {s : Station} {t : Turn} → 0 < length sent → (burstOf m ≡ sent → ⊥) → Outcome m sent z s t
+    → Settles m sent z s t × (isDone (t .answer) ≡ false)
+keeps-sending l n (still-gone e p) = (settles-gone e p, done-of p)
+keeps-sending l n (waits-on w d b v p) = (settles-waiting w d b v p, done-of p)
+keeps-sending {s = s} l n (sends-on w d f v p) = (
+  record {
+    stands = sends (record { wait = w; drawn-wait = d; begun = λ e. absurd (omega arith); follows = f; is = next-of p });
+    empties = quietly s p v;
+  },
+  done-of p,
+)
+keeps-sending l n (ends e v p) = absurd (n e)
+
+-- the burst is over: none sends on
+pub is-over : {m : Message} {sent : List ℕ} {z : ℕ} {s : Station} {t : Turn} → (Follows m sent → ⊥) → Outcome m sent z s t → Settles m [] z s t
+is-over n (still-gone e p) = settles-gone e p
+is-over n (waits-on w d b v p) = settles-waiting w d b v p
+is-over n (sends-on w d f v p) = absurd (n f)
+is-over {t = t} n (ends e v p) =
+    let empty : vacant (t .next) ≡ 1 = ap vacant (next-of p) in
+    let done : mark (isDone (t .answer)) ≡ 1 = ap mark (done-of p) in
+    record { stands = gone (next-of p); empties = omega arith }
+
+pub done-whole : {m : Message} {sent : List ℕ} {z : ℕ} {s : Station} {t : Turn} → Outcome m sent z s t → isDone (t .answer) ≡ true → burstOf m ≡ sent
+done-whole (still-gone e p) d = absurd (false≢true (sym (done-of p) ∙ d))
+done-whole (waits-on w h b v p) d = absurd (false≢true (sym (done-of p) ∙ d))
+done-whole (sends-on w h f v p) d = absurd (false≢true (sym (done-of p) ∙ d))
+done-whole (ends e v p) d = e
+
+-- a clear half-cycle while none sends
+module _ (m : Message) (valid : messageOk m ≡ true) (c d : ℕ) (hd : drawOk d ≡ true) where
+  begins : Follows m []
+  begins = record { front = refl; more = omega (arith, burst-some m) }
+
+  pub counts-on : (s : Station) → sendsOf s ≤ 0 → Stands m [] c s → Settles m [] (c + 1) s (turnOf s 0 d) × (isDone (turnOf s 0 d .answer) ≡ false)
+  counts-on s u (gone e) =
+      let p = ap (λ (s : Station). turnOf s 0 d) e ∙ empty-turn 0 d (omega arith) hd in
+      (settles-gone e p, done-of p)
+  counts-on s u (waiting w hw l e) = (counted-on (ℕ-discrete (c + 1) w), done-of p)
+    where
+      p : turnOf s 0 d ≡ goes (holding m w (c + 1) 0)
+      p = ap (λ (s : Station). turnOf s 0 d) e ∙ waiting-turn m w valid hw 0 d (omega arith) hd c l
+
+      counted-on : Dec (c + 1 ≡ w) → Settles m [] (c + 1) s (turnOf s 0 d)
+      counted-on (no n) = settles-waiting w hw (omega arith) (ap vacant e) p
+      counted-on (yes q) = record {
+        stands = sends (record {
+          wait = w;
+          drawn-wait = hw;
+          begun = λ x. sym q;
+          follows = begins;
+          is = next-of p ∙ ap (λ (c : ℕ). holding m w c 0) q;
+        });
+        empties = quietly s p (ap vacant e);
+      }
+  counts-on s u (sends x) = absurd (omega (arith, sending-half m valid [] c s x ∙ burst-first m))

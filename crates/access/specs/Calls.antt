@@ -1,0 +1,60 @@
+-- A list of bench calls with a receiver behind them (01, 'Station and bench'): what each call is given, and what is kept of its answer.
+use Prim.Native.Nat.{ℕ, _≤_}
+use mathlib.Core.Bool.{Bool}
+use mathlib.Core.List.{List, [], _∷_, map}
+use lib.ListN.{length}
+use Rattle.station.specs.declared.Station.{Station}
+use Rattle.receiver.specs.Receivers.{freshReceiver, stepOf}
+use Rattle.receiver.specs.declared.Receiver.{Receiver}
+use Rattle.receiver.specs.declared.Event.{Event}
+use Rattle.bench.specs.Benches.{benchOf}
+use Rattle.bench.specs.declared.BenchAnswer.{BenchAnswer}
+use Rattle.bench.specs.declared.BenchAnswer.the-variants.{Line, RefusedState, RefusedDraw}
+use Rattle.bench.specs.declared.BenchTurn.{BenchTurn}
+
+-- a call that was not refused: the line's half-cycle, "which stations are DONE", and what the receiver said to that half-cycle
+pub record Answer : Type 0 where
+  pub line : ℕ
+  pub done : List Bool
+  pub event : Event
+
+-- between two calls: the slots, the receiver, and the answers so far, newest first
+pub record Moment : Type 0 where
+  pub slots : List Station
+  pub receiver : Receiver
+  pub past : List Answer
+
+abbrev pub linesOf : List Answer → List ℕ
+linesOf past = map (λ (a : Answer). a .line) past
+
+abbrev pub eventsIn : List Answer → List Event
+eventsIn past = map (λ (a : Answer). a .event) past
+
+-- "The fresh receiver is hunting and has received no half-cycle."
+abbrev pub atStart : List Station → Moment
+atStart slots = record { slots = slots; receiver = freshReceiver; past = [] }
+
+-- "After each bench call that is not refused, and only then, the receiver is called once with the line's half-cycle just answered, in
+-- the state that its own last call returned or left."
+abbrev pub hears : Moment → BenchTurn → BenchAnswer → Moment
+hears now turn (Line h) = record {
+  slots = turn .slots;
+  receiver = stepOf (now .receiver) h .next;
+  past = record { line = h; done = turn .done; event = stepOf (now .receiver) h .event } ∷ now .past;
+}
+hears now turn RefusedState = record { slots = turn .slots; receiver = now .receiver; past = now .past }
+hears now turn RefusedDraw = record { slots = turn .slots; receiver = now .receiver; past = now .past }
+
+-- "Each bench call, a refused one too, gets the same n and, in their slots, all n stations as the call before it returned or left them."
+unfoldable pub call : ℕ → Moment → List ℕ → Moment
+call n now draws = hears now (benchOf n (now .slots) draws) (benchOf n (now .slots) draws .answer)
+
+-- the calls of a list, newest first like their answers, each given by its draws
+unfoldable pub run : ℕ → Moment → List (List ℕ) → Moment
+run n now [] = now
+run n now (draws ∷ earlier) = call n (run n now earlier) draws
+
+-- the draws are whatever numbers, but there is "a draw for each" of the n stations
+abbrev pub Drawn : ℕ → List (List ℕ) → Type 0
+Drawn n [] = Unit {0}
+Drawn n (draws ∷ earlier) = (n ≤ length draws) × Drawn n earlier

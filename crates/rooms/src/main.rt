@@ -1,0 +1,221 @@
+// Sequences of messages that a user would try, each on a few modules. A message is printed with what `apply` answered, and under it
+// each record and house byte that it changed, as they are then. The file `stdout` was worked out from 01 by hand.
+use apply::apply;
+use message::Function;
+use message::Message;
+use record::RECORD_BYTES;
+use record::TABLE_BYTES;
+use show::text;
+
+mod show;
+
+// A module of a kind and a level at a place, 0 to 255, in no group.
+fn with(room: [u8; TABLE_BYTES], place: u8, kind: u8, level: u8) -> [u8; TABLE_BYTES] {
+    let mut t = room;
+    let at = place as usize * RECORD_BYTES;
+    t[at] = kind;
+    t[at + 1] = level;
+    t
+}
+
+// Lamps A1 to A3 and appliance A4, all dark, and lamp B1 at 40, which nothing below reaches.
+fn new_room() -> [u8; TABLE_BYTES] {
+    let t = [0u8; TABLE_BYTES];
+    let t = with(t, 0, 1, 0);
+    let t = with(t, 1, 1, 0);
+    let t = with(t, 2, 1, 0);
+    let t = with(t, 3, 2, 0);
+    with(t, 16, 1, 40)
+}
+
+// Applies a message and prints what came of it.
+fn send(room: [u8; TABLE_BYTES], m: Message) -> [u8; TABLE_BYTES] {
+    let mut t = room;
+    let a = apply(&mut t, m);
+    show::applied(m, a);
+    show::changed_records(&room, &t);
+    show::changed_houses(&room, &t);
+    t
+}
+
+// The same for house A: an address, a function, an extended command.
+fn address(room: [u8; TABLE_BYTES], unit: u8) -> [u8; TABLE_BYTES] {
+    send(
+        room,
+        Message::Address {
+            house: 0,
+            unit: unit,
+        },
+    )
+}
+
+fn function(room: [u8; TABLE_BYTES], f: Function) -> [u8; TABLE_BYTES] {
+    send(
+        room,
+        Message::Function {
+            house: 0,
+            function: f,
+        },
+    )
+}
+
+fn extended(room: [u8; TABLE_BYTES], unit: u8, command: u8, data: u8) -> [u8; TABLE_BYTES] {
+    send(
+        room,
+        Message::Extended {
+            house: 0,
+            unit: unit,
+            data: data,
+            command: command,
+        },
+    )
+}
+
+// Lamp A1 was called and switched on before; then the button for lamp A3, whose press is an address and a function.
+fn reading() -> [u8; TABLE_BYTES] {
+    let t = address(new_room(), 0);
+    let t = function(t, Function::On);
+    let t = address(t, 2);
+    function(t, Function::On)
+}
+
+// The button on the wall and the one by radio.
+fn both_buttons() {
+    text(b"Reading, by the wall\n");
+    let wall = reading();
+    text(b"Reading, by radio\n");
+    let radio = reading();
+    text(b"what the two tables differ in\n");
+    show::changed_records(&wall, &radio);
+    show::changed_houses(&wall, &radio);
+}
+
+fn called_together() {
+    text(b"Two lamps called before one command\n");
+    let t = address(new_room(), 0);
+    let t = address(t, 2);
+    let t = function(t, Function::On);
+    let t = function(t, Function::Dim);
+    function(t, Function::Off);
+}
+
+fn floor_and_ceiling() {
+    text(b"Dim to the floor, bright to the ceiling\n");
+    let t = extended(new_room(), 0, 0x31, 0x0A);
+    let t = address(t, 0);
+    let t = function(t, Function::Dim);
+    let t = function(t, Function::Dim);
+    let t = function(t, Function::Dim);
+    let t = function(t, Function::Dim);
+    let t = function(t, Function::Bright);
+    let t = extended(t, 0, 0x31, 0x3D);
+    let t = function(t, Function::Bright);
+    let t = function(t, Function::Bright);
+    let t = function(t, Function::Off);
+    let t = function(t, Function::Dim);
+    let t = function(t, Function::Off);
+    let t = function(t, Function::Bright);
+    let t = address(t, 3);
+    let t = function(t, Function::On);
+    function(t, Function::Dim);
+}
+
+fn groups() {
+    text(b"Groups joined, executed, left\n");
+    let t = extended(new_room(), 0, 0x31, 0x14);
+    let t = extended(t, 0, 0x30, 0x40);
+    let t = extended(t, 1, 0x32, 0x68);
+    let t = extended(t, 3, 0x32, 0x45);
+    let t = extended(t, 0, 0x36, 0x40);
+    let t = extended(t, 0, 0x3C, 0x40);
+    let t = extended(t, 0, 0x3C, 0x50);
+    let t = extended(t, 0, 0x36, 0x50);
+    let t = extended(t, 1, 0x35, 0x02);
+    let t = extended(t, 0, 0x36, 0x40);
+    let t = extended(t, 0, 0x32, 0xC3);
+    let t = extended(t, 0, 0x35, 0xF2);
+    let t = extended(t, 0, 0x36, 0xC0);
+    let t = extended(t, 0, 0x30, 0x60);
+    extended(t, 0, 0x36, 0x60);
+}
+
+fn all_off() {
+    text(b"All lights and all units\n");
+    let t = address(new_room(), 0);
+    let t = address(t, 3);
+    let t = function(t, Function::AllLightsOn);
+    let t = function(t, Function::AllLightsOff);
+    let t = function(t, Function::On);
+    let t = function(t, Function::AllUnitsOff);
+    let t = function(t, Function::On);
+    let t = extended(t, 0, 0x33, 0x00);
+    extended(t, 0, 0x34, 0x00);
+}
+
+fn absent_units() {
+    text(b"Absent units\n");
+    let t = address(new_room(), 0);
+    let t = function(t, Function::On);
+    let t = address(t, 8);
+    let t = function(t, Function::On);
+    let t = extended(t, 8, 0x31, 0x20);
+    let t = extended(t, 8, 0x30, 0x00);
+    let t = extended(t, 8, 0x32, 0x60);
+    let t = extended(t, 8, 0x35, 0x0F);
+    extended(t, 8, 0x33, 0x00);
+}
+
+fn appliance() {
+    text(b"An appliance with presets\n");
+    let t = extended(new_room(), 3, 0x31, 0x05);
+    let t = extended(t, 3, 0x30, 0x80);
+    let t = extended(t, 3, 0x31, 0xC0);
+    let t = extended(t, 3, 0x32, 0x01);
+    let t = extended(t, 0, 0x36, 0x00);
+    let t = extended(t, 0, 0x36, 0x10);
+    extended(t, 0, 0x36, 0x80);
+}
+
+fn heard_only() {
+    text(b"Heard only, and not carried\n");
+    let t = function(new_room(), Function::HailRequest);
+    let t = function(t, Function::StatusOn);
+    let t = extended(t, 0, 0x37, 0x00);
+    let t = extended(t, 0, 0x37, 0x10);
+    let t = extended(t, 0, 0x37, 0x60);
+    let t = extended(t, 0, 0x37, 0x61);
+    let t = extended(t, 0, 0x37, 0x30);
+    let t = extended(t, 0, 0x38, 0xFF);
+    let t = extended(t, 0, 0x3B, 0xFF);
+    let t = extended(t, 0, 0x3C, 0x20);
+    let t = extended(t, 0, 0x3D, 0x00);
+    extended(t, 0, 0x35, 0x11);
+}
+
+// The lowest number that applies: a short table, a house or a unit above 15, a lamp at 64, a command that is not carried.
+fn refusals() {
+    text(b"Refused\n");
+    let far = Message::Address { house: 16, unit: 0 };
+    let mut short = [0u8; 2063];
+    let a = apply(&mut short, far);
+    text(b"2063 bytes, ");
+    show::applied(far, a);
+    let t = send(new_room(), far);
+    let t = extended(t, 16, 0x33, 0x00);
+    let damaged = with(t, 1, 1, 64);
+    let t = send(damaged, far);
+    let t = function(t, Function::On);
+    extended(t, 0, 0x3D, 0x00);
+}
+
+fn main() {
+    both_buttons();
+    called_together();
+    floor_and_ceiling();
+    groups();
+    all_off();
+    absent_units();
+    appliance();
+    heard_only();
+    refusals();
+}
