@@ -1,12 +1,13 @@
 -- The bench (01, 'Station and bench', 'Numbers given back'): one half-cycle of any number of stations on one line.
-use Prim.Native.Nat.{ℕ, zero, suc, _-_, max}
-use mathlib.Core.Bool.{Bool, true, false, _&&_}
+use Prim.Native.Nat.{ℕ, _-_, max}
+use mathlib.Core.Bool.{Bool, true, false, _&&_, not}
 use mathlib.Core.List.{List, [], _∷_, _++_}
 use lib.Dec.{leb}
 use lib.ListN.{length, take, drop, replicate}
 use Rattle.message.specs.Choice.{pick}
 use Rattle.message.specs.Numbers.{NONE, STATE, DRAW}
 use Rattle.station.specs.declared.Station.{Station}
+use Rattle.station.specs.Lowest.{Cause, cause, lowest}
 use Rattle.station.specs.Stations.{stationOk, drawOk, sendsOf, turnOf, isDone}
 use Rattle.bench.specs.declared.BenchAnswer.{BenchAnswer}
 use Rattle.bench.specs.declared.BenchAnswer.the-variants.{Line, RefusedState, RefusedDraw}
@@ -68,3 +69,10 @@ benchOf n slots draws =
     (pick (drawsOk (take n draws)) (turnAll n slots draws)
     (record { answer = RefusedDraw; done = replicate (length slots) false; slots = slots }))
     (record { answer = RefusedState; done = replicate (length slots) false; slots = slots })
+
+-- the refusals of a call, and the number that it gives back
+abbrev pub benchCauses : ℕ → List Station → List ℕ → List Cause
+benchCauses n slots draws = cause (not (benchOk n slots)) STATE ∷ cause (not (drawsOk (take n draws))) DRAW ∷ []
+
+unfoldable pub benchRefusal : ℕ → List Station → List ℕ → ℕ
+benchRefusal n slots draws = lowest (benchCauses n slots draws)

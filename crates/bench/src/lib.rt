@@ -1,5 +1,19 @@
 // The bench: up to sixteen stations on one line, advanced by one half-cycle.
+use station::Held;
+use station::SendAnswer;
 use station::Station;
+use station::draw_ok;
+use station::empty;
+use station::idle;
+use station::moves;
+use station::sends;
+ghost use mathlib.Core.Path.{_≡_};
+ghost use mathlib.Core.Bool.{true, false};
+ghost use mathlib.Core.List.{map};
+ghost use Prim.Native.Nat.{_≤_};
+ghost use lib.ListN.{length, take, replicate};
+ghost use Rattle.station.specs.Stations.{sendsOf};
+ghost use Rattle.bench.specs.Benches.{benchNumber, lineOf, stationsOk, drawsOk, turnAll, benchOf, benchRefusal};
 
 // How many stations a bench has at most.
 pub const SLOTS: usize = 16;
@@ -17,4 +31,100 @@ pub struct BenchTurn {
     pub answer: BenchAnswer,
     pub done: [bool; 16],
     pub slots: [Station; 16],
+}
+
+// A call that is refused: the slots as they were, and none DONE.
+fn refused(answer: BenchAnswer, slots: [Station; 16]) -> BenchTurn
+    ensures { λ o. ⌜ o ≡ record { answer = answer; done = replicate (length slots) false; slots = slots } ⌝ }
+{
+    BenchTurn {
+        answer: answer,
+        done: [false; 16],
+        slots: slots,
+    }
+}
+
+// Judges the first n draws.
+fn draws_fine(draws: [u8; 16], n: usize) -> bool
+    requires { ⌜ n ≤ length draws ⌝ }
+    ensures { λ r. ⌜ r ≡ drawsOk (take n draws) ⌝ }
+{
+    let mut i = 0;
+    while i < n {
+        if !draw_ok(draws[i]) {
+            return false;
+        }
+        i += 1;
+    }
+    true
+}
+
+// Moves the first n stations, judged before, by the line's half-cycle and by what each of them sent.
+fn move_all(slots: [Station; 16], n: usize, draws: [u8; 16], line: u8, sent: [u8; 16]) -> BenchTurn
+    requires { ⌜ n ≤ length slots ⌝ }
+    requires { ⌜ n ≤ length draws ⌝ }
+    requires { ⌜ stationsOk (take n slots) ≡ true ⌝ }
+    requires { ⌜ drawsOk (take n draws) ≡ true ⌝ }
+    requires { ⌜ (line ≡ lineOf (take n slots)) × (take n sent ≡ map sendsOf (take n slots)) ⌝ }
+    ensures { λ o. ⌜ o ≡ turnAll n slots draws ⌝ }
+{
+    let mut after = slots;
+    let mut done = [false; 16];
+    let mut i = 0;
+    while i < n {
+        let s = after[i];
+        let held = s.held;
+        match held {
+            Held::Empty => {}
+            Held::Holds(m) => {
+                let v = moves(m, s, sent[i], line, draws[i]);
+                if v.done {
+                    after[i] = empty();
+                    done[i] = true;
+                } else {
+                    after[i].wait = v.wait;
+                    after[i].count = v.count;
+                    after[i].place = v.place;
+                }
+            }
+        }
+        i += 1;
+    }
+    BenchTurn {
+        answer: BenchAnswer::Line(line),
+        done: done,
+        slots: after,
+    }
+}
+
+// One half-cycle of the first n stations: each is judged and heard in one look, then all are moved. A refused call leaves the slots
+// as they were, and any call leaves those past n.
+pub fn half_cycle(slots: [Station; 16], n: usize, draws: [u8; 16]) -> BenchTurn
+    ensures { λ o. ⌜ o ≡ benchOf n slots draws ⌝ }
+    ensures { λ o. ⌜ benchNumber (o .answer) ≡ benchRefusal n slots draws ⌝ }
+{
+    if !((1 <= n) & (n <= SLOTS)) {
+        return refused(BenchAnswer::RefusedState, slots);
+    }
+    let mut line: u8 = 0;
+    let mut sent = [0; 16];
+    let mut i = 0;
+    while i < n {
+        if !idle(slots[i]) {
+            match sends(slots[i]) {
+                SendAnswer::RefusedState => {
+                    return refused(BenchAnswer::RefusedState, slots);
+                }
+                SendAnswer::Sends(half) => {
+                    sent[i] = half;
+                    line = line | half;
+                }
+            }
+        }
+        i += 1;
+    }
+    if !draws_fine(draws, n) {
+        return refused(BenchAnswer::RefusedDraw, slots);
+    }
+    move_all(slots, n, draws, line, sent)
 }

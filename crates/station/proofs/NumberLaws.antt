@@ -17,7 +17,7 @@ use Rattle.message.specs.declared.Message.{Message}
 use Rattle.burst.specs.Frames.{burstOf, burstLength}
 use lib.ListN.{getD}
 use Rattle.station.specs.Lowest.{Cause, cause, lower, lowest}
-use Rattle.station.specs.Stations.{drawOk, stationOk, isEmpty, loadOf, loadNumber, loadCauses, loadRefusal, heldSends, sendsOf, sendOf, sentBy, sentOf, heldMoves, sendsOn, turnOf, turnNumber, turnCauses, turnRefusal}
+use Rattle.station.specs.Stations.{drawOk, stationOk, isEmpty, loadOf, loadNumber, loadCauses, loadRefusal, heldSends, sendsOf, sendOf, sentBy, sentOf, heldMoves, turnOf, turnNumber, turnCauses, turnRefusal}
 use Rattle.station.specs.declared.Held.{Held}
 use Rattle.station.specs.declared.Held.the-variants.{Empty, Holds}
 use Rattle.station.specs.declared.Station.{Station}

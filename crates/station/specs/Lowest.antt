@@ -1,6 +1,6 @@
 -- "Within one routine the lowest number that applies is given." (01, 'Numbers given back')
 use Prim.Native.Nat.{ℕ, min}
-use mathlib.Core.Bool.{Bool, true, false}
+use mathlib.Core.Bool.{Bool}
 use mathlib.Core.List.{List, [], _∷_}
 use lib.Dec.{eqb}
 use Rattle.message.specs.Choice.{pick}

@@ -21,6 +21,7 @@ use Rattle.station.specs.declared.SendAnswer.the-variants as send
 use Rattle.station.specs.declared.TurnAnswer.{TurnAnswer}
 use Rattle.station.specs.declared.TurnAnswer.the-variants as turn
 use Rattle.station.specs.declared.Turn.{Turn}
+use Rattle.station.specs.declared.Move.{Move}
 
 -- ---- 01's number for each answer
 
@@ -163,23 +164,6 @@ turnOf s heard draw =
     (record { answer = turn.RefusedState; next = s }))
     (record { answer = turn.RefusedHalf; next = s })
 
--- The same of a station that was judged before, by the half-cycle that it sent: for whoever judges all stations before it moves one.
--- A station that nobody judged waits while its count is below its wait, and sends until its place is the last.
-abbrev pub sentOn : Message → ℕ → ℕ → ℕ → Turn
-sentOn m wait count place =
-    pick (ltb (place + 1) (burstLength m))
-    (record { answer = turn.Going; next = record { held = Holds m; wait = wait; count = count; place = place + 1 } })
-    (record { answer = turn.Done; next = emptyStation })
-
-abbrev pub judgedMoves : Held → Station → ℕ → ℕ → ℕ → Turn
-judgedMoves Empty s sent heard draw = record { answer = turn.Going; next = s }
-judgedMoves (Holds m) s sent heard draw =
-    pick (ltb (s .count) (s .wait)) (record { answer = turn.Going; next = waits m (s .wait) (s .count) heard draw })
-    (pick (eqb sent heard) (sentOn m (s .wait) (s .count) (s .place)) (record { answer = turn.Going; next = loaded m draw }))
-
-unfoldable pub movesOf : Station → ℕ → ℕ → ℕ → Turn
-movesOf s sent heard draw = judgedMoves (s .held) s sent heard draw
-
 -- the refusals of a half-cycle, FAULT: "sent 1, heard 0", and the number that it gives back
 abbrev pub turnCauses : Station → ℕ → ℕ → List Cause
 turnCauses s heard draw =
@@ -200,3 +184,25 @@ isDone turn.RefusedHalf = false
 isDone turn.RefusedState = false
 isDone turn.RefusedDraw = false
 isDone turn.RefusedFault = false
+
+-- ---- for whoever judges all of its stations before it moves one
+
+abbrev pub isQuiet : Held → ℕ → ℕ → Bool
+isQuiet Empty wait count = true
+isQuiet (Holds m) wait count = ltb count wait
+
+-- a station in one of the states, that is empty or waits
+unfoldable pub idleOf : Station → Bool
+idleOf s = stationOk s && isQuiet (s .held) (s .wait) (s .count)
+
+-- the numbers of a station with a message after a half-cycle, by the half-cycle that it sent: a waiting one sends 0. One that nobody
+-- judged waits while its count is below its wait, and sends until its place is the last.
+unfoldable pub moveOf : Message → Station → ℕ → ℕ → ℕ → Move
+moveOf m s sent heard draw =
+    pick (eqb sent heard)
+    (pick (ltb (s .count) (s .wait))
+    (record { done = false; wait = s .wait; count = s .count + 1; place = 0 })
+    (pick (ltb (s .place + 1) (burstLength m))
+    (record { done = false; wait = s .wait; count = s .count; place = s .place + 1 })
+    (record { done = true; wait = 8; count = 0; place = 0 })))
+    (record { done = false; wait = draw; count = 0; place = 0 })

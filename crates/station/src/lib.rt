@@ -3,11 +3,12 @@ use message::Message;
 use message::word::bit_count;
 use message::word::word_of;
 ghost use mathlib.Core.Path.{_≡_};
+ghost use mathlib.Core.Bool.{true};
 ghost use mathlib.Core.List.{_∷_};
-ghost use Prim.Native.Nat.{_+_, _*_, _<_, _≤_};
+ghost use Prim.Native.Nat.{_+_, _<_, _≤_};
 ghost use lib.ListN.{getD};
 ghost use Rattle.burst.specs.Frames.{bitsOf, pairsOf, burstOf, burstLength};
-ghost use Rattle.station.specs.Stations.{emptyStation, drawOk, stationOk, loaded, loadOf, loadNumber, loadRefusal, sendOf, waits, sentOn, sentBy, sentOf, movesOf, turnOf, turnNumber, turnRefusal};
+ghost use Rattle.station.specs.Stations.{emptyStation, drawOk, stationOk, loaded, loadOf, loadNumber, loadRefusal, sendsOf, sendOf, sentBy, sentOf, idleOf, moveOf, turnOf, turnNumber, turnRefusal};
 
 pub enum Held {
     Empty,
@@ -61,6 +62,15 @@ pub struct Turn {
     pub next: Station,
 }
 
+// A station's numbers after a half-cycle. Where it is done it has sent its whole burst, and is empty.
+pub struct Move {
+    pub done: bool,
+    pub wait: u8,
+    pub count: u8,
+    pub place: u8,
+}
+
+// A station with no message.
 pub fn empty() -> Station
     ensures { λ r. ⌜ r ≡ emptyStation ⌝ }
 {
@@ -72,7 +82,8 @@ pub fn empty() -> Station
     }
 }
 
-fn draw_ok(draw: u8) -> bool
+// Whether a draw is 8 to 10.
+pub fn draw_ok(draw: u8) -> bool
     ensures { λ r. ⌜ r ≡ drawOk draw ⌝ }
 {
     (8 <= draw) & (draw <= 10)
@@ -96,22 +107,74 @@ fn burst_length(m: Message) -> u8
     }
 }
 
-// Whether a station is in a state of the papers.
-fn station_ok(s: Station) -> bool
-    ensures { λ r. ⌜ r ≡ stationOk s ⌝ }
+// The half-cycle at a place of the frame that carries these bits: the start 1 1 1 0, then each bit and its complement.
+fn frame_half(word: u32, bits: u32, place: u32) -> u8
+    requires { ⌜ (bits ≤ 32) × (place < 4 + (bits + bits)) ⌝ }
+    ensures { λ r. ⌜ r ≡ getD (1 ∷ 1 ∷ 1 ∷ 0 ∷ pairsOf (bitsOf bits word)) place 0 ⌝ }
+{
+    if place < 3 {
+        return 1;
+    }
+    if place < 4 {
+        return 0;
+    }
+    let past = place - 4;
+    let bit = (word >> (bits - 1 - past / 2)) % 2;
+    if past % 2 == 0 {
+        bit as u8
+    } else {
+        (1 - bit) as u8
+    }
+}
+
+// The half-cycle at a place of a message's burst, from the message's bits: no burst is kept.
+fn half_at(m: Message, place: u8) -> u8
+    requires { ⌜ place < burstLength m ⌝ }
+    ensures { λ r. ⌜ r ≡ getD (burstOf m) place 0 ⌝ }
+{
+    let bits = bit_count(m) as u32;
+    let frame = 4 + (bits + bits);
+    let mut at = place as u32;
+    if frame <= at {
+        at -= frame;
+    }
+    frame_half(word_of(m), bits, at)
+}
+
+// Whether a station is in a state that there is and sends nothing: it is empty, or it waits.
+pub fn idle(s: Station) -> bool
+    ensures { λ r. ⌜ r ≡ idleOf s ⌝ }
 {
     let held = s.held;
     match held {
         Held::Empty => (s.wait == 8) & ((s.count == 0) & (s.place == 0)),
+        Held::Holds(m) => draw_ok(s.wait)
+            & ((s.count < s.wait) & ((s.place == 0) & message::valid(m))),
+    }
+}
+
+// What a station sends in this half-cycle: 0 where it is idle, else it holds a message and its count has come to its wait.
+pub fn sends(s: Station) -> SendAnswer
+    ensures { λ o. ⌜ o ≡ sendOf s ⌝ }
+    ensures { λ o. ⌜ sentBy o ≡ sentOf s ⌝ }
+{
+    if idle(s) {
+        return SendAnswer::Sends(0);
+    }
+    let held = s.held;
+    match held {
+        Held::Empty => SendAnswer::RefusedState,
         Held::Holds(m) => {
-            let within = s.place < burst_length(m);
-            let placed = (s.place == 0) | (s.wait <= s.count);
-            draw_ok(s.wait) & ((s.count <= s.wait) & (within & (placed & message::valid(m))))
+            let sane = draw_ok(s.wait) & message::valid(m);
+            if sane & ((s.count == s.wait) & (s.place < burst_length(m))) {
+                return SendAnswer::Sends(half_at(m, s.place));
+            }
+            SendAnswer::RefusedState
         }
     }
 }
 
-// A station that has just taken a message.
+// A station with a message that waits from its first clear half-cycle on.
 fn fresh(m: Message, draw: u8) -> Station
     ensures { λ r. ⌜ r ≡ loaded m draw ⌝ }
 {
@@ -159,123 +222,50 @@ pub fn load(s: Station, m: Message, draw: u8) -> Loading
     }
 }
 
-// The half-cycle at a place of the frame that carries these bits: the start 1 1 1 0, then each bit and its complement.
-fn frame_half(word: u32, bits: u32, place: u32) -> u8
-    requires { ⌜ (bits ≤ 32) × (place < 4 + (bits + bits)) ⌝ }
-    ensures { λ r. ⌜ r ≡ getD (1 ∷ 1 ∷ 1 ∷ 0 ∷ pairsOf (bitsOf bits word)) place 0 ⌝ }
+// Whether a station is in a state that there is: it then says what it sends.
+fn station_ok(s: Station) -> bool
+    ensures { λ r. ⌜ r ≡ stationOk s ⌝ }
 {
-    if place < 3 {
-        return 1;
-    }
-    if place < 4 {
-        return 0;
-    }
-    let past = place - 4;
-    let bit = (word >> (bits - 1 - past / 2)) % 2;
-    if past % 2 == 0 {
-        bit as u8
-    } else {
-        (1 - bit) as u8
+    match sends(s) {
+        SendAnswer::Sends(_) => true,
+        SendAnswer::RefusedState => false,
     }
 }
 
-// The half-cycle at a place of a message's burst, from the message's bits: no burst is kept.
-fn half_at(m: Message, place: u8) -> u8
-    requires { ⌜ place < burstLength m ⌝ }
-    ensures { λ r. ⌜ r ≡ getD (burstOf m) place 0 ⌝ }
+// The numbers of a station with a message after a half-cycle in which it sent, and heard. Nothing is judged: a bench judges all of
+// its stations before it moves one.
+pub fn moves(m: Message, s: Station, sent: u8, heard: u8, draw: u8) -> Move
+    ensures { λ r. ⌜ r ≡ moveOf m s sent heard draw ⌝ }
 {
-    let bits = bit_count(m) as u32;
-    let frame = 4 + (bits + bits);
-    let mut at = place as u32;
-    if frame <= at {
-        at -= frame;
-    }
-    frame_half(word_of(m), bits, at)
-}
-
-// What a station sends in this half-cycle: its state is judged on the way.
-pub fn sends(s: Station) -> SendAnswer
-    ensures { λ o. ⌜ o ≡ sendOf s ⌝ }
-    ensures { λ o. ⌜ sentBy o ≡ sentOf s ⌝ }
-{
-    if !station_ok(s) {
-        return SendAnswer::RefusedState;
-    }
-    let held = s.held;
-    match held {
-        Held::Empty => SendAnswer::Sends(0),
-        Held::Holds(m) => {
-            if s.count == s.wait {
-                return SendAnswer::Sends(half_at(m, s.place));
-            }
-            SendAnswer::Sends(0)
-        }
-    }
-}
-
-// A waiting station after a half-cycle: a clear one is counted, a 1 starts the count again with a new wait.
-fn waited(m: Message, wait: u8, count: u8, heard: u8, draw: u8) -> Station
-    requires { ⌜ count < wait ⌝ }
-    ensures { λ r. ⌜ r ≡ waits m wait count heard draw ⌝ }
-{
-    if heard == 1 {
-        return fresh(m, draw);
-    }
-    Station {
-        held: Held::Holds(m),
-        wait: wait,
-        count: count + 1,
-        place: 0,
-    }
-}
-
-// A sending station after a half-cycle that went out as sent.
-fn sent_on(m: Message, wait: u8, count: u8, place: u8) -> Turn
-    ensures { λ o. ⌜ o ≡ sentOn m wait count place ⌝ }
-{
-    if place < burst_length(m) - 1 {
-        return Turn {
-            answer: TurnAnswer::Going,
-            next: Station {
-                held: Held::Holds(m),
-                wait: wait,
-                count: count,
-                place: place + 1,
-            },
+    if sent != heard {
+        return Move {
+            done: false,
+            wait: draw,
+            count: 0,
+            place: 0,
         };
     }
-    Turn {
-        answer: TurnAnswer::Done,
-        next: empty(),
+    if s.count < s.wait {
+        return Move {
+            done: false,
+            wait: s.wait,
+            count: s.count + 1,
+            place: 0,
+        };
     }
-}
-
-// A station after a half-cycle in which it sent, and heard. Nothing is judged: a bench judges all of its stations before it moves
-// one.
-pub fn moves(s: Station, sent: u8, heard: u8, draw: u8) -> Turn
-    ensures { λ o. ⌜ o ≡ movesOf s sent heard draw ⌝ }
-{
-    let held = s.held;
-    match held {
-        Held::Empty => Turn {
-            answer: TurnAnswer::Going,
-            next: s,
-        },
-        Held::Holds(m) => {
-            if s.count < s.wait {
-                return Turn {
-                    answer: TurnAnswer::Going,
-                    next: waited(m, s.wait, s.count, heard, draw),
-                };
-            }
-            if sent != heard {
-                return Turn {
-                    answer: TurnAnswer::Going,
-                    next: fresh(m, draw),
-                };
-            }
-            sent_on(m, s.wait, s.count, s.place)
-        }
+    if s.place < burst_length(m) - 1 {
+        return Move {
+            done: false,
+            wait: s.wait,
+            count: s.count,
+            place: s.place + 1,
+        };
+    }
+    Move {
+        done: true,
+        wait: 8,
+        count: 0,
+        place: 0,
     }
 }
 
@@ -308,7 +298,41 @@ pub fn advance(s: Station, heard: u8, draw: u8) -> Turn
                     next: s,
                 };
             }
-            moves(s, sent, heard, draw)
+            moved(s, sent, heard, draw)
+        }
+    }
+}
+
+// A judged station after a half-cycle: an empty one stays as it is.
+fn moved(s: Station, sent: u8, heard: u8, draw: u8) -> Turn
+    requires { ⌜ (stationOk s ≡ true) × (drawOk draw ≡ true) ⌝ }
+    requires { ⌜ sendsOf s ≡ sent ⌝ }
+    requires { ⌜ (sent ≤ heard) × (heard ≤ 1) ⌝ }
+    ensures { λ o. ⌜ o ≡ turnOf s heard draw ⌝ }
+{
+    let held = s.held;
+    match held {
+        Held::Empty => Turn {
+            answer: TurnAnswer::Going,
+            next: s,
+        },
+        Held::Holds(m) => {
+            let v = moves(m, s, sent, heard, draw);
+            if v.done {
+                return Turn {
+                    answer: TurnAnswer::Done,
+                    next: empty(),
+                };
+            }
+            Turn {
+                answer: TurnAnswer::Going,
+                next: Station {
+                    held: held,
+                    wait: v.wait,
+                    count: v.count,
+                    place: v.place,
+                },
+            }
         }
     }
 }

@@ -1,10 +1,10 @@
--- `advance` meets its contract: the tests are those of `turnOf`, in its order, and a judged station moves by what it sent.
+-- `advance` meets its contract: the tests are those of `turnOf`, in its order, and what is left is the judged station's move.
 use mathlib.Core.Path.{sym, _∙_}
 use borrow.Author.Tests.{le-leb, lt-leb}
 use Rattle.station.specs.Stations.{turnOf}
 use Rattle.station.proofs.Judged.{bad, fine}
 use Rattle.station.proofs.NumberLaws.{turn-promise}
-use Rattle.station.proofs.TurnLaws.{sends-told, refused-told, moves-turn}
+use Rattle.station.proofs.TurnLaws.{sends-told, refused-told}
 use borrow.Author.Needs.{needs}
 use Rattle.station.proofs.advance.Statement.{statement}
 use Rattle.station.proofs.advance.Tie as tie
@@ -44,8 +44,11 @@ returns-3 c =
     turn-promise (a .s) (a .heard) (a .draw)
     (rw (le-leb (a .heard) 1 (c .before .before .before .before .before .before .before .if1 .left), told .0, fine (c .before .before .draw-ok .ensures) (c .before .if2 .left), told .1, lt-leb _ _ (c .if3 .taken)))
 
-moves-requires : tie.Need-moves-requires
-moves-requires c κs = search needs
+moved-requires : tie.Need-moved-requires
+moved-requires c κs =
+    let a = c .before .before .before .before .before .before .before .before .args in
+    let told = sends-told (a .s) (c .before .before .before .before .sent .given .0 .0) (sym (c .before .before .before .before .before .before .sends .ensures .0) ∙ c .before .before .before .before .sent .given .1) in
+    ((told .0, fine (c .before .before .draw-ok .ensures) (c .before .if2 .left)), (told .1, (c .if3 .left, c .before .before .before .before .before .before .before .if1 .left)))
 
 returns-4 : tie.Need-returns-4
 unfolding turnOf
@@ -56,10 +59,7 @@ returns-4 c =
 
 returns-5 : tie.Need-returns-5
 returns-5 c =
-    let a = c .before .before .before .before .before .before .before .before .before .args in
-    let told = sends-told (a .s) (c .before .before .before .before .before .sent .given .0 .0) (sym (c .before .before .before .before .before .before .before .sends .ensures .0) ∙ c .before .before .before .before .before .sent .given .1) in
-    turn-promise (a .s) (a .heard) (a .draw)
-    (c .moves .ensures ∙ rw (← told .1) (moves-turn (a .s) (a .heard) (a .draw) (le-leb (a .heard) 1 (c .before .before .before .before .before .before .before .before .if1 .left)) (told .0) (fine (c .before .before .before .draw-ok .ensures) (c .before .before .if2 .left)) (rw (told .1) (le-leb _ _ (c .before .if3 .left)))))
+    let a = c .before .before .before .before .before .before .before .before .before .args in turn-promise (a .s) (a .heard) (a .draw) (c .moved .ensures)
 
 pub advance-spec : {M : Type 1} → statement M
 advance-spec =
@@ -72,6 +72,6 @@ advance-spec =
     draw-ok-requires
     returns-2
     returns-3
-    moves-requires
+    moved-requires
     returns-4
     returns-5)

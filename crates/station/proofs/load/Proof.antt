@@ -14,7 +14,7 @@ unfolding loadOf
 returns c =
     let a = c .before .before .args in
     load-promise (a .s) (a .m) (a .draw)
-    (simp (bad (c .before .valid .ensures) (c .if1 .taken)))
+    (rw (bad (c .before .valid .ensures) (c .if1 .taken)))
 
 station-ok-requires : tie.Need-station-ok-requires
 station-ok-requires c κs = search needs
@@ -24,7 +24,7 @@ unfolding loadOf
 returns-2 c =
     let a = c .before .before .before .before .args in
     load-promise (a .s) (a .m) (a .draw)
-    (simp (fine (c .before .before .before .valid .ensures) (c .before .before .if1 .left), bad (c .before .station-ok .ensures) (c .if2 .taken)))
+    (rw (fine (c .before .before .before .valid .ensures) (c .before .before .if1 .left), bad (c .before .station-ok .ensures) (c .if2 .taken)))
 
 draw-ok-requires : tie.Need-draw-ok-requires
 draw-ok-requires c κs = search needs
@@ -34,7 +34,7 @@ unfolding loadOf
 returns-3 c =
     let a = c .before .before .before .before .before .before .args in
     load-promise (a .s) (a .m) (a .draw)
-    (simp (fine (c .before .before .before .before .before .valid .ensures) (c .before .before .before .before .if1 .left), fine (c .before .before .before .station-ok .ensures) (c .before .before .if2 .left), bad (c .before .draw-ok .ensures) (c .if3 .taken)))
+    (rw (fine (c .before .before .before .before .before .valid .ensures) (c .before .before .before .before .if1 .left), fine (c .before .before .before .station-ok .ensures) (c .before .before .if2 .left), bad (c .before .draw-ok .ensures) (c .if3 .taken)))
 
 enum-told : tie.Need-enum-told
 enum-told c = search needs
@@ -57,7 +57,7 @@ unfolding loadOf
 returns-5 c =
     let a = c .before .before .before .before .before .before .before .before .args in
     load-promise (a .s) (a .m) (a .draw)
-    (simp (fine (c .before .before .before .before .before .before .before .valid .ensures) (c .before .before .before .before .before .before .if1 .left), fine (c .before .before .before .before .before .station-ok .ensures) (c .before .before .before .before .if2 .left), fine (c .before .before .before .draw-ok .ensures) (c .before .before .if3 .left), c .enum-told2 .given .1))
+    (rw (fine (c .before .before .before .before .before .before .before .valid .ensures) (c .before .before .before .before .before .before .if1 .left), fine (c .before .before .before .before .before .station-ok .ensures) (c .before .before .before .before .if2 .left), fine (c .before .before .before .draw-ok .ensures) (c .before .before .if3 .left), c .enum-told2 .given .1))
 
 pub load-spec : {M : Type 1} → statement M
 load-spec =

@@ -1,20 +1,27 @@
--- `sends` meets its contract: a judged station is empty, sends, or waits, and where it sends its place is within its burst.
-use borrow.Author.Tests.{eq-eqb, ne-eqb}
-use Rattle.station.specs.Stations.{sendsOf, sendOf}
-use Rattle.station.proofs.Judged.{bad, fine}
+-- `sends` meets its contract: an idle station sends 0. One that is not idle is in one of the states exactly where it holds a message
+-- that its tests let through, with its count at its wait and its place within its burst.
+use mathlib.Core.Path.{sym, _∙_}
+use mathlib.Core.Bool.{_&&_}
+use borrow.Author.Tests.{ltb-true}
+use lib.Dec.{eqb, ltb}
+use Rattle.message.specs.Messages.{messageOk}
+use Rattle.burst.specs.Frames.{burstLength}
+use Rattle.station.specs.Stations.{drawOk, sendOf}
 use Rattle.station.proofs.NumberLaws.{sent-promise}
-use Rattle.station.proofs.TurnLaws.{station-within}
+use Rattle.station.proofs.StateLaws.{idle-told, empty-busy, holds-busy, sends-half, last-two}
 use borrow.Author.Needs.{needs}
 use Rattle.station.proofs.sends.Statement.{statement}
 use Rattle.station.proofs.sends.Tie as tie
 
-station-ok-requires : tie.Need-station-ok-requires
-station-ok-requires c κs = search needs
+idle-requires : tie.Need-idle-requires
+idle-requires c κs = search needs
 
 returns : tie.Need-returns
 unfolding sendOf
 returns c =
-    sent-promise (c .before .before .args .s) (simp (bad (c .before .station-ok .ensures) (c .if1 .taken)))
+    let s = c .before .before .args .s in
+    let told = idle-told s (sym (c .before .idle .ensures) ∙ c .if1 .taken) in
+    sent-promise s (rw (told .0, told .1))
 
 enum-told : tie.Need-enum-told
 enum-told c = search needs
@@ -22,36 +29,58 @@ enum-told c = search needs
 enum-known-held : tie.Need-enum-known-held
 enum-known-held c = search needs
 
+draw-ok-requires : tie.Need-draw-ok-requires
+draw-ok-requires c κs = search needs
+
+valid-requires : tie.Need-valid-requires
+valid-requires c κs = search needs
+
+burst-length-requires : tie.Need-burst-length-requires
+burst-length-requires c κs = search needs
+
 half-at-requires : tie.Need-half-at-requires
 half-at-requires c κs =
-    station-within (c .before .before .before .before .before .before .before .args .s) (c .before .before .before .held .given .0 .0) (fine (c .before .before .before .before .before .before .station-ok .ensures) (c .before .before .before .before .before .if1 .left)) (c .before .before .before .held .given .1)
+    let s = c .before .before .before .before .before .before .before .before .before .before .before .args .s in
+    let m = c .before .before .before .before .before .before .before .held .given .0 .0 in
+    let tests = rw (c .before .before .before .before .before .draw-ok .ensures, c .before .before .before .before .valid .ensures, c .before .before .burst-length .ensures) at (c .if2 .taken) in
+    ltb-true (s .place) (burstLength m) (last-two (drawOk (s .wait) && messageOk m) (eqb (s .count) (s .wait)) (ltb (s .place) (burstLength m)) tests .1)
 
 returns-2 : tie.Need-returns-2
-unfolding sendOf sendsOf
+unfolding sendOf
 returns-2 c =
-    sent-promise (c .before .before .before .before .before .before .before .before .args .s)
-    (simp (c .half-at .ensures, eq-eqb _ _ (c .before .if2 .taken), fine (c .before .before .before .before .before .before .before .station-ok .ensures) (c .before .before .before .before .before .before .if1 .left), c .before .before .before .before .held .given .1))
+    let s = c .before .before .before .before .before .before .before .before .before .before .before .before .args .s in
+    let m = c .before .before .before .before .before .before .before .before .held .given .0 .0 in
+    let held = c .before .before .before .before .before .before .before .before .held .given .1 in
+    let busy = sym (c .before .before .before .before .before .before .before .before .before .before .before .idle .ensures) ∙ c .before .before .before .before .before .before .before .before .before .before .if1 .left in
+    let tests = rw (c .before .before .before .before .before .before .draw-ok .ensures, c .before .before .before .before .before .valid .ensures, c .before .before .before .burst-length .ensures) at (c .before .if2 .taken) in
+    let level = last-two (drawOk (s .wait) && messageOk m) (eqb (s .count) (s .wait)) (ltb (s .place) (burstLength m)) tests .0 in
+    sent-promise s (rw (c .half-at .ensures, holds-busy s busy m held ∙ tests, sends-half s m held level))
 
 returns-3 : tie.Need-returns-3
-unfolding sendOf sendsOf
+unfolding sendOf
 returns-3 c =
-    sent-promise (c .before .before .before .before .args .s)
-    (simp (fine (c .before .before .before .station-ok .ensures) (c .before .before .if1 .left), c .enum-told .given .1))
+    let s = c .before .before .before .before .args .s in
+    sent-promise s (rw (empty-busy s (sym (c .before .before .before .idle .ensures) ∙ c .before .before .if1 .left) (c .enum-told .given .1)))
 
 returns-4 : tie.Need-returns-4
-unfolding sendOf sendsOf
+unfolding sendOf
 returns-4 c =
-    sent-promise (c .before .before .before .before .before .before .before .args .s)
-    (simp (ne-eqb _ _ (c .if2 .left), fine (c .before .before .before .before .before .before .station-ok .ensures) (c .before .before .before .before .before .if1 .left), c .before .before .before .held .given .1))
+    let s = c .before .before .before .before .before .before .before .before .before .before .before .args .s in
+    let busy = sym (c .before .before .before .before .before .before .before .before .before .before .idle .ensures) ∙ c .before .before .before .before .before .before .before .before .before .if1 .left in
+    let tests = rw (c .before .before .before .before .before .draw-ok .ensures, c .before .before .before .before .valid .ensures, c .before .before .burst-length .ensures) at (c .if2 .left) in
+    sent-promise s (rw (holds-busy s busy (c .before .before .before .before .before .before .before .held .given .0 .0) (c .before .before .before .before .before .before .before .held .given .1) ∙ tests))
 
 pub sends-spec : {M : Type 1} → statement M
 sends-spec =
     tie.close
     (tie.spec
-    station-ok-requires
+    idle-requires
     returns
     enum-told
     enum-known-held
+    draw-ok-requires
+    valid-requires
+    burst-length-requires
     half-at-requires
     returns-2
     returns-3

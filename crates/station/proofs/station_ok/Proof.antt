@@ -1,41 +1,25 @@
--- `station_ok` meets its contract: an empty station and one with a message are each judged as the definition says.
-use Rattle.station.specs.Stations.{stationOk}
+-- `station_ok` meets its contract: `sends` refuses exactly the states that there are not.
+use mathlib.Core.Path.{sym, _∙_}
+use Rattle.station.proofs.TurnLaws.{sends-told, refused-told}
 use borrow.Author.Needs.{needs}
 use Rattle.station.proofs.station_ok.Statement.{statement}
 use Rattle.station.proofs.station_ok.Tie as tie
 
+sends-requires : tie.Need-sends-requires
+sends-requires c κs = search needs
+
 enum-told : tie.Need-enum-told
 enum-told c = search needs
 
-enum-known-held : tie.Need-enum-known-held
-enum-known-held c = search needs
-
-burst-length-requires : tie.Need-burst-length-requires
-burst-length-requires c κs = search needs
-
-draw-ok-requires : tie.Need-draw-ok-requires
-draw-ok-requires c κs = search needs
-
-valid-requires : tie.Need-valid-requires
-valid-requires c κs = search needs
+enum-told-2 : tie.Need-enum-told-2
+enum-told-2 c = search needs
 
 returns : tie.Need-returns
-unfolding stationOk
-returns c = rw (c .before .before .before .enum-told .given .1)
+returns c = sym (sends-told (c .before .before .before .args .s) (c .enum-told .given .0 .0) (sym (c .before .before .sends .ensures .0) ∙ c .enum-told .given .1) .0)
 
 returns-2 : tie.Need-returns-2
-unfolding stationOk
 returns-2 c =
-    simp (c .valid .ensures, c .before .before .draw-ok .ensures, c .before .before .before .before .before .before .burst-length .ensures, c .before .before .before .before .before .before .before .before .held .given .1)
+    sym (refused-told (c .before .before .before .args .s) (sym (c .before .before .sends .ensures .0) ∙ c .enum-told2 .given .1))
 
 pub station-ok-spec : {M : Type 1} → statement M
-station-ok-spec =
-    tie.close
-    (tie.spec
-    enum-told
-    enum-known-held
-    burst-length-requires
-    draw-ok-requires
-    valid-requires
-    returns
-    returns-2)
+station-ok-spec = tie.close (tie.spec sends-requires enum-told enum-told-2 returns returns-2)

@@ -1,0 +1,2 @@
+pub mod StationsLaws
+pub mod Loops
