@@ -15,16 +15,12 @@ use Rattle.receiver.specs.declared.Given.the-variants.{No, Yes}
 use Rattle.receiver.specs.declared.Receiver.{Receiver}
 use Rattle.receiver.specs.declared.Event.{Event}
 use Rattle.receiver.specs.declared.Event.the-variants.{Nothing, Message as Gives, Repeat, BrokenPair, BrokenUnsupported, RefusedHalf, RefusedState}
-use Rattle.wire.specs.Messages.{messageFrom, functionFrom, messageBytes}
+use Rattle.wire.specs.Messages.{messageFrom, functionFrom, messageIn, messageBytes}
 use Rattle.wire.specs.Receivers.{givenFrom, fromFour, receiverFrom, receiverBytes, eventBytes, eventGives, eventFrom}
 use Rattle.wire.specs.declared.receivers.ReceiverRead.{ReceiverRead}
 use Rattle.wire.specs.declared.receivers.ReceiverRead.the-variants.{Receiver as Is}
 use Rattle.wire.specs.declared.MessageRead.{MessageRead}
 use Rattle.wire.specs.declared.MessageRead.the-variants.{Message as Says}
-
--- the message that the first five of a list's bytes say
-abbrev pub messageIn : List ℕ → MessageRead
-messageIn bs = messageFrom (getD bs 0 0) (getD bs 1 0) (getD bs 2 0) (getD bs 3 0) (getD bs 4 0)
 
 pub message-read-back : (m : Message) → messageIn (messageBytes m) ≡ Says m
 unfolding messageFrom

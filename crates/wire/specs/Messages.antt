@@ -3,6 +3,7 @@ use Prim.Native.Nat.{ℕ}
 use mathlib.Core.Bool.{Bool, true, false}
 use mathlib.Core.List.{List, [], _∷_}
 use lib.Dec.{eqb}
+use lib.ListN.{getD}
 use Rattle.message.specs.Choice.{pick}
 use Rattle.message.specs.Codes.{functionCode, meaningOf}
 use Rattle.message.specs.declared.Meaning.{Meaning}
@@ -26,6 +27,10 @@ messageFrom kind house third «data» command =
     (pick (eqb kind 2) (functionFrom house (meaningOf third))
     (pick (eqb kind 3) (Says (Extended house third «data» command))
     NoMessage))
+
+-- the message that a list's first five bytes say
+abbrev pub messageIn : List ℕ → MessageRead
+messageIn bytes = messageFrom (getD bytes 0 0) (getD bytes 1 0) (getD bytes 2 0) (getD bytes 3 0) (getD bytes 4 0)
 
 -- the five bytes of a message: "0 for data and command where the kind has none"
 abbrev pub messageBytes : Message → List ℕ
