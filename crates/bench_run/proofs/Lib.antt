@@ -1,3 +1,0 @@
-pub mod LoadLaws
-pub mod CallLaws
-pub mod RunNumbers

@@ -1,5 +1,0 @@
-pub mod Packed
-pub mod Bursts
-pub mod Radio
-pub mod Receivers
-pub mod Tables
