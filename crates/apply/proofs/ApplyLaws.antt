@@ -3,6 +3,7 @@
 --     refused           a number other than 0: the bytes stay, and the count is 0
 --     carried           no number of the table or the message applies: the plan decides
 --     ran-carried, not-carried      the two plans
+--     stays             a plan that does not run leaves the bytes
 --     house-below       the house of a message that is not refused is one of the sixteen
 use mathlib.Core.Path.{_≡_, refl, sym, ap, subst, _∙_}
 use mathlib.Core.Bool.{Bool, true, false, _&&_, and-eq-true-iff}
@@ -31,7 +32,7 @@ unfolding rightAnswer tableAfter
 refused m t n e other = (rw (e, other, changed-none RECORDS t), rw (e, other))
 
 -- a plan that does not run leaves the bytes
-stays : (m : Message) (p : Plan) (t : List ℕ) → pick (eqb (planNumber p) NONE) (carriedOut m p t) t ≡ carriedOut m p t
+pub stays : (m : Message) (p : Plan) (t : List ℕ) → pick (eqb (planNumber p) NONE) (carriedOut m p t) t ≡ carriedOut m p t
 stays m (Run a) t = refl
 stays m NotCarried t = refl
 

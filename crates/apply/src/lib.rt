@@ -13,6 +13,7 @@ ghost use lib.ListN.{length};
 ghost use Rattle.message.specs.Messages.{messageOk};
 ghost use Rattle.record.specs.Layout.{TABLE-BYTES};
 ghost use Rattle.apply.specs.Applied.{answerOf, Carried, rightAnswer, tableAfter};
+ghost use Rattle.apply.specs.Judged.{judgedAnswer, judgedTable};
 
 // What applying a message answers.
 pub enum ApplyAnswer {
@@ -53,6 +54,20 @@ pub fn apply(table: &mut [u8], m: Message) -> ApplyAnswer
     }
     if !table::valid(table) {
         return ApplyAnswer::RefusedRecord;
+    }
+    carry(table, m)
+}
+
+// The same for a table that its caller has judged: the records are not judged again, so that a route of several messages judges
+// them once.
+pub fn apply_judged(table: &mut [u8], m: Message) -> ApplyAnswer
+    ensures { λ r. ⌜ (answerOf r ≡ judgedAnswer m (now (table .entry))) × (now (table .exit) ≡ judgedTable m (now (table .entry))) ⌝ }
+{
+    if table.len() != TABLE_BYTES {
+        return ApplyAnswer::RefusedTable;
+    }
+    if !message::valid(m) {
+        return ApplyAnswer::RefusedMessage;
     }
     carry(table, m)
 }

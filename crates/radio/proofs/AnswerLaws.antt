@@ -2,6 +2,7 @@
 --
 --     write-given                        a valid command's four bytes are given
 --     read-given, ReadAs, accepted       the four bytes of the valid commands are read, and no others
+--     read-as                            what is read is a valid command, and these are its bytes
 --     codes-count, codes-one-to-one, codes-read, codes-only      the list of codes is the codes read
 --     all-valid                          the messages of a valid command are valid
 use mathlib.Core.Path.{_≡_, refl, sym, ap, subst, _∙_}
@@ -62,6 +63,13 @@ accepted (b ∷ x ∷ c ∷ y ∷ []) e = go (complementary (b ∷ x ∷ c ∷ y
 accepted (b ∷ x ∷ c ∷ y ∷ z ∷ zs) e =
     let n = simp (ne-eqb (length (b ∷ x ∷ c ∷ y ∷ z ∷ zs)) 4 (λ (l : length (b ∷ x ∷ c ∷ y ∷ z ∷ zs) ≡ 4). omega arith)) at e in
     absurd (omega arith)
+
+pub read-as : (k : RadioCommand) (code : List ℕ) → readAnswer code ≡ given (k ∷ []) → (commandOk k ≡ true) × (fourBytes k ≡ code)
+read-as k code e =
+    let r = accepted code (ap (λ a. a .number) e) in
+    let again : given (r .command ∷ []) ≡ given (k ∷ []) = sym (read-given (r .command) (r .ok)) ∙ ap readAnswer (r .bytes) ∙ e in
+    let same = head-eq-of-cons-eq (ap (λ a. a .values) again) in
+    (subst (λ (x : RadioCommand). commandOk x ≡ true) same (r .ok), subst (λ (x : RadioCommand). fourBytes x ≡ code) same (r .bytes))
 
 -- ---- the codes
 

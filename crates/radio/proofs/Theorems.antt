@@ -1,7 +1,7 @@
 -- What holds of radio bytes as a whole (01, 'Radio bytes'), said of the definitions in the contracts of `write`, `read` and `messages`.
 use mathlib.Core.Path.{_≡_, refl, sym, ap, _∙_}
 use mathlib.Core.Bool.{Bool, true, false}
-use mathlib.Core.List.{List, [], _∷_, List·Memᴰ, List·Memᴰ·not-nil, head-eq-of-cons-eq}
+use mathlib.Core.List.{List, [], _∷_, List·Memᴰ, List·Memᴰ·not-nil}
 use Prim.Native.Nat.{ℕ, _<_}
 use lib.ListN.{length, getD}
 use Rattle.message.specs.Numbers.{NONE}
@@ -11,7 +11,7 @@ use Rattle.radio.specs.Codes.{fourBytes, commandOk, codes}
 use Rattle.radio.specs.Answers.{given, writeAnswer, readAnswer, messagesOf, messagesAnswer}
 use Rattle.radio.specs.declared.RadioCommand.{RadioCommand}
 use Rattle.radio.proofs.CommandLaws.{every-mem}
-use Rattle.radio.proofs.AnswerLaws.{write-given, read-given, accepted, codes-count, codes-one-to-one, codes-read, codes-only, all-valid}
+use Rattle.radio.proofs.AnswerLaws.{write-given, read-given, read-as, codes-count, codes-one-to-one, codes-read, codes-only, all-valid}
 
 -- Reading what was written gives the command back: a command with house and unit 0 to 15 is written as four bytes, and these are
 -- read as that command.
@@ -20,11 +20,7 @@ read-of-written k ok = (write-given k ok, read-given k ok)
 
 -- Writing what was read gives the four bytes back: where the reader gives a command for bytes, the writer gives them for it.
 pub written-of-read : (k : RadioCommand) (code : List ℕ) → readAnswer code ≡ given (k ∷ []) → writeAnswer k ≡ given code
-written-of-read k code e =
-    let r = accepted code (ap (λ a. a .number) e) in
-    let again : given (r .command ∷ []) ≡ given (k ∷ []) = sym (read-given (r .command) (r .ok)) ∙ ap readAnswer (r .bytes) ∙ e in
-    let same = head-eq-of-cons-eq (ap (λ a. a .values) again) in
-    ap writeAnswer (sym same) ∙ write-given (r .command) (r .ok) ∙ ap given (r .bytes)
+written-of-read k code e = let it = read-as k code e in write-given k (it .0) ∙ ap given (it .1)
 
 -- "There are 544 codes": of all lists of bytes, those that the reader does not refuse are the 544 of one list, which has none twice.
 pub record Exactly544 : Type 0 where

@@ -1,0 +1,125 @@
+-- `run_all` meets its contract. The loop's invariant (`Going`): the calls that are left would fill lines and marks, and bring the count, to where
+-- all calls bring them. A turn makes the first of them.
+use Prim.Native.Nat.{ℕ, _-_, _*_, _≤_}
+use native.Mathlib.Omega.{arith}
+use lib.ListN.{length, length-set}
+use borrow.Author.Needs.{needs}
+use Rattle.bench_run.proofs.CallLaws.{Going, going-first, going-next, going-last, draws-left}
+use Rattle.bench_run.proofs.run_all.Statement.{statement}
+use Rattle.bench_run.proofs.run_all.Tie as tie
+
+abbrev Inv-loop : tie.InvT-loop
+Inv-loop n draws lines₀ marks₀ current₀ count₀ at₀ j₀ lines marks current count at j =
+    Going n current₀ draws lines₀ marks₀ lines marks current count at j × (n ≤ 16) × (2 * length lines₀ ≤ length marks₀)
+
+abbrev μ-loop : tie.MeasureT-loop
+μ-loop n draws lines₀ marks₀ current₀ count₀ at₀ j₀ lines marks current count at j = length lines₀ - j
+
+loop-holds : tie.Need-loop-holds Inv-loop μ-loop
+loop-holds c = let a = c .before .before .before .args in (going-first (a .n) (a .slots) (a .draws .now) (a .lines .now) (a .marks .now) (c .before .before .before .pre .1), c .before .before .before .pre .0, c .before .before .before .pre .2)
+
+draws-at-requires : tie.Need-draws-at-requires Inv-loop μ-loop
+draws-at-requires c κs =
+    let now = c .before .loop in
+    let a = c .before .before .before .before .before .args in
+    let there = draws-left (a .n) (a .slots) (a .draws .now) (a .lines .now) (a .marks .now) (now .lines) (now .marks) (now .current) (now .count) (now .at) (now .j) (now .inv .0) (omega (arith, now .inv .0 .lines-long)) in
+    (now .inv .1, omega (arith, there))
+
+half-cycle-requires : tie.Need-half-cycle-requires Inv-loop μ-loop
+half-cycle-requires c κs = search needs
+
+line-byte-requires : tie.Need-line-byte-requires Inv-loop μ-loop
+line-byte-requires c κs = search needs
+
+slice-write-lines : tie.Need-slice-write-lines Inv-loop μ-loop
+slice-write-lines c = omega arith
+
+mask-of-requires : tie.Need-mask-of-requires Inv-loop μ-loop
+mask-of-requires c κs = search needs
+
+cast-marks : tie.Need-cast-marks Inv-loop μ-loop
+cast-marks c = search needs
+
+mul-marks : tie.Need-mul-marks Inv-loop μ-loop
+mul-marks c = omega arith
+
+slice-write-marks : tie.Need-slice-write-marks Inv-loop μ-loop
+slice-write-marks c = omega arith
+
+cast-marks-2 : tie.Need-cast-marks-2 Inv-loop μ-loop
+cast-marks-2 c = search needs
+
+mul-marks-2 : tie.Need-mul-marks-2 Inv-loop μ-loop
+mul-marks-2 c = omega arith
+
+add-marks : tie.Need-add-marks Inv-loop μ-loop
+add-marks c = omega arith
+
+slice-write-marks-2 : tie.Need-slice-write-marks-2 Inv-loop μ-loop
+slice-write-marks-2 c = simp length-set (omega arith)
+
+counts-as-requires : tie.Need-counts-as-requires Inv-loop μ-loop
+counts-as-requires c κs = search needs
+
+add-count : tie.Need-add-count Inv-loop μ-loop
+add-count c = omega arith
+
+add-at : tie.Need-add-at Inv-loop μ-loop
+add-at c = omega arith
+
+add-j : tie.Need-add-j Inv-loop μ-loop
+add-j c = omega arith
+
+loop-less : tie.Need-loop-less Inv-loop μ-loop
+loop-less c = omega arith
+
+loop-again : tie.Need-loop-again Inv-loop μ-loop
+loop-again c =
+    let now = c .before .before .before .before .before .before .before .before .loop in
+    let a = c .before .before .before .before .before .before .before .before .before .before .before .before .args in
+    let next =
+    going-next (a .n) (a .slots) (a .draws .now) (a .lines .now) (a .marks .now) (now .lines) (now .marks) (now .current) (now .count) (now .at) (now .j) (now .inv .0) (omega (arith, now .inv .0 .lines-long))
+    (c .before .before .before .before .before .half-cycle .result) (c .before .before .before .before .before .before .draws-at .result) (c .before .before .before .before .before .half-cycle .ensures .0) (c .before .before .before .before .before .before .draws-at .ensures)
+    (c .before .before .line-byte .result) (c .before .mask-of .result) (c .counts-as .result) (c .before .before .line-byte .ensures) (c .before .mask-of .ensures) (c .counts-as .ensures) in
+    (next, now .inv .1, now .inv .2)
+
+same-length : tie.Need-same-length Inv-loop μ-loop
+same-length c = c .before .loop .inv .0 .lines-long
+
+same-length-2 : tie.Need-same-length-2 Inv-loop μ-loop
+same-length-2 c = c .before .loop .inv .0 .marks-long
+
+returns : tie.Need-returns Inv-loop μ-loop
+returns c =
+    let now = c .before .loop in
+    let a = c .before .before .before .before .before .args in
+    going-last (a .n) (a .slots) (a .draws .now) (a .lines .now) (a .marks .now) (now .lines) (now .marks) (now .current) (now .count) (now .at) (now .j) (now .inv .0) (omega (arith, now .inv .0 .lines-long, c .loop-test .left)) (now .inv .2)
+
+pub run-all-spec : {M : Type 1} → statement M
+run-all-spec =
+    tie.close
+    (tie.spec
+    Inv-loop
+    μ-loop
+    loop-holds
+    draws-at-requires
+    half-cycle-requires
+    line-byte-requires
+    slice-write-lines
+    mask-of-requires
+    cast-marks
+    mul-marks
+    slice-write-marks
+    cast-marks-2
+    mul-marks-2
+    add-marks
+    slice-write-marks-2
+    counts-as-requires
+    add-count
+    add-at
+    add-j
+    loop-less
+    loop-again
+    same-length
+    same-length-2
+    returns)

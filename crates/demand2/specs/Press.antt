@@ -1,0 +1,41 @@
+-- A press, for a reader who knows keypads and no proofs: on a room where another lamp was addressed before, a press at the wall and the same press by
+-- radio leave the same room, and the next Off darkens the same lamps.
+use Prim.Native.Nat.{ℕ, _+_, _*_, _≤_}
+use mathlib.Core.Path.{_≡_}
+use mathlib.Core.Bool.{Bool, true, not, _&&_}
+use mathlib.Core.List.{List, [], _∷_}
+use lib.Dec.{eqb}
+use Rattle.message.specs.declared.Function.the-variants.{On, Off}
+use Rattle.message.specs.declared.Message.the-variants.{Address, Function as Command}
+use Rattle.receiver.specs.Receivers.{freshReceiver}
+use Rattle.radio.specs.Codes.{fourBytes}
+use Rattle.radio.specs.declared.RadioCommand.the-variants.{On as RadioOn}
+use Rattle.record.specs.Layout.{UNITS, recordAt, present}
+use Rattle.record.specs.ModuleTable.{tableOk}
+use Rattle.apply.specs.Applied.{tableAfter}
+use Rattle.demand2.specs.Demand2.{Route, radio, mains, leaves, after, onLine}
+
+-- The On of unit u in house h. At a wall keypad: its address and then the function, bursts after z and w clear half-cycles. By radio: one code.
+abbrev pub atWall : ℕ → ℕ → ℕ → ℕ → Route
+atWall z w h u = mains freshReceiver (onLine (after z (Address h u) ∷ after w (Command h On) ∷ []))
+
+abbrev pub byRadio : ℕ → ℕ → Route
+byRadio h u = radio (fourBytes (RadioOn h u) ∷ [])
+
+-- whether the house's function Off, coming next, darkens the module of record i: lit before it and dark after it
+abbrev pub darkens : ℕ → List ℕ → ℕ → Bool
+darkens h t i = not (eqb (recordAt t i .level) 0) && eqb (recordAt (tableAfter (Command h Off) t) i .level) 0
+
+-- of a room,
+pub record SamePress (z w h u : ℕ) (room : List ℕ) : Type 0 where
+  -- a press at the wall and the same press by radio leave the same room,
+  pub same-room : leaves (atWall z w h u) room ≡ leaves (byRadio h u) room
+  -- and the next Off darkens the same lamps,
+  pub same-lamps : (i : ℕ) → darkens h (leaves (atWall z w h u) room) i ≡ darkens h (leaves (byRadio h u) room) i
+  -- the one that was pressed among them, if a module is there
+  pub pressed : tableOk room ≡ true → present (recordAt room (h * UNITS + u)) ≡ true → darkens h (leaves (byRadio h u) room) (h * UNITS + u) ≡ true
+
+-- Units u and v of house h; v may be u. The table before is any, also one that the routes refuse: proofs/Press.antt
+abbrev pub Press : Type 0
+Press =
+    (h u v z w : ℕ) (t : List ℕ) → h ≤ 15 → u ≤ 15 → 3 ≤ z → 3 ≤ w → SamePress z w h u (tableAfter (Address h v) t)

@@ -1,0 +1,31 @@
+-- A radio command as three numbers, and as three bytes: command (0 on, 1 off, 2 bright, 3 dim), house, unit.
+use Prim.Native.Nat.{ℕ}
+use mathlib.Core.Bool.{Bool, true, false}
+use mathlib.Core.List.{List, [], _∷_}
+use lib.Dec.{eqb}
+use Rattle.message.specs.Choice.{pick}
+use Rattle.radio.specs.declared.RadioCommand.{RadioCommand}
+use Rattle.radio.specs.declared.RadioCommand.the-variants.{On, Off, Bright, Dim}
+use Rattle.wire.specs.declared.commands.CommandRead.{CommandRead}
+use Rattle.wire.specs.declared.commands.CommandRead.the-variants.{Command as Says, NoCommand}
+use Rattle.wire.specs.declared.commands.Three.{Three}
+
+-- the command that three numbers say; a number above 3 says none. The unit is not looked at for bright and dim.
+unfoldable pub commandFrom : ℕ → ℕ → ℕ → CommandRead
+commandFrom command house unit =
+    pick (eqb command 0) (Says (On house unit))
+    (pick (eqb command 1) (Says (Off house unit))
+    (pick (eqb command 2) (Says (Bright house))
+    (pick (eqb command 3) (Says (Dim house))
+    NoCommand)))
+
+-- the three bytes of a command, 0 for the unit of bright and dim
+abbrev pub commandBytes : RadioCommand → List ℕ
+commandBytes (On h u) = 0 ∷ h ∷ u ∷ []
+commandBytes (Off h u) = 1 ∷ h ∷ u ∷ []
+commandBytes (Bright h) = 2 ∷ h ∷ 0 ∷ []
+commandBytes (Dim h) = 3 ∷ h ∷ 0 ∷ []
+
+-- three numbers in their order
+abbrev pub threeListed : Three → List ℕ
+threeListed t = t .command ∷ t .house ∷ t .unit ∷ []

@@ -1,0 +1,64 @@
+// A radio command as numbers and bytes.
+use radio::RadioCommand;
+ghost use mathlib.Core.Path.{_≡_};
+ghost use Rattle.wire.specs.Commands.{commandFrom, threeListed, commandBytes};
+
+// What three numbers say.
+pub enum CommandRead {
+    Command(RadioCommand),
+    NoCommand,
+}
+
+// The three numbers of a radio command: 0 on, 1 off, 2 bright, 3 dim; its house; its unit, 0 where it has none.
+pub struct Three {
+    pub command: u8,
+    pub house: u8,
+    pub unit: u8,
+}
+
+// The radio command that three numbers say. A house or a unit above 15 is not judged here.
+pub fn command_from(command: u8, house: u8, unit: u8) -> CommandRead
+    ensures { λ r. ⌜ r ≡ commandFrom command house unit ⌝ }
+{
+    match command {
+        0 => CommandRead::Command(RadioCommand::On {
+            house: house,
+            unit: unit,
+        }),
+        1 => CommandRead::Command(RadioCommand::Off {
+            house: house,
+            unit: unit,
+        }),
+        2 => CommandRead::Command(RadioCommand::Bright { house: house }),
+        3 => CommandRead::Command(RadioCommand::Dim { house: house }),
+        _ => CommandRead::NoCommand,
+    }
+}
+
+// The three numbers of a radio command.
+pub fn three_of(command: RadioCommand) -> Three
+    ensures { λ r. ⌜ threeListed r ≡ commandBytes command ⌝ }
+{
+    match command {
+        RadioCommand::On { house, unit } => Three {
+            command: 0,
+            house: house,
+            unit: unit,
+        },
+        RadioCommand::Off { house, unit } => Three {
+            command: 1,
+            house: house,
+            unit: unit,
+        },
+        RadioCommand::Bright { house } => Three {
+            command: 2,
+            house: house,
+            unit: 0,
+        },
+        RadioCommand::Dim { house } => Three {
+            command: 3,
+            house: house,
+            unit: 0,
+        },
+    }
+}

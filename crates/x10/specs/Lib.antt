@@ -1,0 +1,5 @@
+pub mod Packed
+pub mod Bursts
+pub mod Radio
+pub mod Receivers
+pub mod Tables
