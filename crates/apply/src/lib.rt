@@ -13,7 +13,8 @@ ghost use lib.ListN.{length};
 ghost use Rattle.message.specs.Messages.{messageOk};
 ghost use Rattle.record.specs.Layout.{TABLE-BYTES};
 ghost use Rattle.apply.specs.Applied.{answerOf, Carried, rightAnswer, tableAfter};
-ghost use Rattle.apply.specs.Judged.{judgedAnswer, judgedTable};
+
+pub mod judged;
 
 // What applying a message answers.
 pub enum ApplyAnswer {
@@ -30,7 +31,7 @@ pub enum ApplyAnswer {
 }
 
 // Carries a message out on a table, if it is one that the table carries.
-fn carry(table: &mut [u8], m: Message) -> ApplyAnswer
+pub(crate) fn carry(table: &mut [u8], m: Message) -> ApplyAnswer
     requires { ⌜ (length (now table) ≡ TABLE-BYTES) × (messageOk m ≡ true) ⌝ }
     ensures { λ r. ⌜ Carried m (now (table .entry)) (now (table .exit)) (answerOf r) ⌝ }
 {
@@ -54,20 +55,6 @@ pub fn apply(table: &mut [u8], m: Message) -> ApplyAnswer
     }
     if !table::valid(table) {
         return ApplyAnswer::RefusedRecord;
-    }
-    carry(table, m)
-}
-
-// The same for a table that its caller has judged: the records are not judged again, so that a route of several messages judges
-// them once.
-pub fn apply_judged(table: &mut [u8], m: Message) -> ApplyAnswer
-    ensures { λ r. ⌜ (answerOf r ≡ judgedAnswer m (now (table .entry))) × (now (table .exit) ≡ judgedTable m (now (table .entry))) ⌝ }
-{
-    if table.len() != TABLE_BYTES {
-        return ApplyAnswer::RefusedTable;
-    }
-    if !message::valid(m) {
-        return ApplyAnswer::RefusedMessage;
     }
     carry(table, m)
 }

@@ -1,8 +1,8 @@
 -- A press, for a reader who knows keypads and no proofs: on a room where another lamp was addressed before, a press at the wall and the same press by
 -- radio leave the same room, and the next Off darkens the same lamps.
-use Prim.Native.Nat.{ℕ, _+_, _*_, _≤_}
+use Prim.Native.Nat.{ℕ, _+_, _*_, _≤_, _<_}
 use mathlib.Core.Path.{_≡_}
-use mathlib.Core.Bool.{Bool, true, not, _&&_}
+use mathlib.Core.Bool.{Bool, true, false, not, _&&_}
 use mathlib.Core.List.{List, [], _∷_}
 use lib.Dec.{eqb}
 use Rattle.message.specs.declared.Function.the-variants.{On, Off}
@@ -10,7 +10,7 @@ use Rattle.message.specs.declared.Message.the-variants.{Address, Function as Co
 use Rattle.receiver.specs.Receivers.{freshReceiver}
 use Rattle.radio.specs.Codes.{fourBytes}
 use Rattle.radio.specs.declared.RadioCommand.the-variants.{On as RadioOn}
-use Rattle.record.specs.Layout.{UNITS, recordAt, present}
+use Rattle.record.specs.Layout.{UNITS, recordAt, heardAt, present}
 use Rattle.record.specs.ModuleTable.{tableOk}
 use Rattle.apply.specs.Applied.{tableAfter}
 use Rattle.demand2.specs.Demand2.{Route, radio, mains, leaves, after, onLine}
@@ -26,16 +26,28 @@ byRadio h u = radio (fourBytes (RadioOn h u) ∷ [])
 abbrev pub darkens : ℕ → List ℕ → ℕ → Bool
 darkens h t i = not (eqb (recordAt t i .level) 0) && eqb (recordAt (tableAfter (Command h Off) t) i .level) 0
 
--- of a room,
+-- of a room, whatever lamps were addressed in it before,
 pub record SamePress (z w h u : ℕ) (room : List ℕ) : Type 0 where
   -- a press at the wall and the same press by radio leave the same room,
   pub same-room : leaves (atWall z w h u) room ≡ leaves (byRadio h u) room
   -- and the next Off darkens the same lamps,
   pub same-lamps : (i : ℕ) → darkens h (leaves (atWall z w h u) room) i ≡ darkens h (leaves (byRadio h u) room) i
-  -- the one that was pressed among them, if a module is there
+  -- the one that was pressed among them, if a module is there,
   pub pressed : tableOk room ≡ true → present (recordAt room (h * UNITS + u)) ≡ true → darkens h (leaves (byRadio h u) room) (h * UNITS + u) ≡ true
+  -- and no other of the house, if a function has come since they were addressed: the press lets go of them
+  pub let-go : tableOk room ≡ true → heardAt room h ≡ 1 → (n : ℕ) → n < UNITS → eqb n u ≡ false → darkens h (leaves (byRadio h u) room) (h * UNITS + n) ≡ false
 
--- Units u and v of house h; v may be u. The table before is any, also one that the routes refuse: proofs/Press.antt
+-- Unit u of house h. The room is any, also a table that the routes refuse: proofs/Press.antt
 abbrev pub Press : Type 0
-Press =
-    (h u v z w : ℕ) (t : List ℕ) → h ≤ 15 → u ≤ 15 → 3 ≤ z → 3 ≤ w → SamePress z w h u (tableAfter (Address h v) t)
+Press = (h u z w : ℕ) (room : List ℕ) → h ≤ 15 → u ≤ 15 → 3 ≤ z → 3 ≤ w → SamePress z w h u room
+
+-- The recalled keypads: somebody presses On of unit v, then somebody presses On of another unit u of the house. At the wall or by radio, the room
+-- is the same, and the next Off leaves v as it is.
+pub record SameAfterAnother (z w h u v : ℕ) (t : List ℕ) : Type 0 where
+  pub same-press : SamePress z w h u (leaves (byRadio h v) t)
+  pub spared : darkens h (leaves (atWall z w h u) (leaves (byRadio h v) t)) (h * UNITS + v) ≡ false
+
+abbrev pub Recall : Type 0
+Recall =
+    (h u v z w : ℕ) (t : List ℕ) → h ≤ 15 → u ≤ 15 → v ≤ 15 → eqb v u ≡ false → 3 ≤ z → 3 ≤ w → tableOk t ≡ true
+    → SameAfterAnother z w h u v t

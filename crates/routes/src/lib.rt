@@ -1,6 +1,6 @@
 // Two routes into a module table: by radio, four bytes through the reader; on the mains, half-cycles through the receiver.
 use apply::ApplyAnswer;
-use apply::apply_judged;
+use apply::judged::apply_judged;
 use radio::RadioCommand;
 use radio::RadioMessages;
 use radio::RadioRead;

@@ -4,8 +4,8 @@ use borrow.Author.Tests.{eq-eqb, ne-eqb, not-true, not-false}
 use Rattle.apply.specs.Judged.{judgedNumber}
 use Rattle.apply.proofs.JudgedLaws.{judged-refused, judged-carried}
 use borrow.Author.Needs.{needs}
-use Rattle.apply.proofs.apply_judged.Statement.{statement}
-use Rattle.apply.proofs.apply_judged.Tie as tie
+use Rattle.apply.proofs.judged.apply_judged.Statement.{statement}
+use Rattle.apply.proofs.judged.apply_judged.Tie as tie
 
 returns : tie.Need-returns
 unfolding judgedNumber
