@@ -1,13 +1,13 @@
 -- Laws of the bench, station by station: what one call leaves in a slot and marks DONE, and what the line says of those that send.
 --
---     ok-all, ok-each              the n stations, or draws, are right as each of them is
---     turnAt, lengths, turned      each station after the line's half-cycle, and its mark
---     line-above, line-some        the line is no less than what a station sends; it is 0, or what some station sends
+--     ok-all                       the n stations are right as each of them is
+--     turnAt, turned               each station after the line's half-cycle, and its mark
+--     line-some                    the line is 0, or what some station sends
 --     Turns, bench-turns           a call that is not refused, as these say
 --     bench-number, bench-refuses  a call that its draws refuse
 use mathlib.Core.Path.{_≡_, refl, ap, _∙_}
 use mathlib.Core.Logic.{_⊎_, inl, inr}
-use mathlib.Core.Bool.{Bool, true, false, and-eq-true-iff}
+use mathlib.Core.Bool.{Bool, true, false}
 use mathlib.Core.List.{List, [], _∷_}
 use Prim.Native.Nat.{ℕ, zero, suc, _-_, _≤_, _<_, max, zero-le, suc-le-suc}
 use native.Mathlib.Nat.{le-of-suc-le-suc, not-suc-le-zero}
@@ -24,30 +24,19 @@ use Rattle.station.specs.Stations.{emptyStation, stationOk, drawOk, sendsOf, tu
 use Rattle.bench.specs.Benches.{benchNumber, mostStations, lineOf, moveAll, doneAll, stationsOk, drawsOk, benchOk, turnAll, benchOf}
 use Rattle.bench.specs.declared.BenchAnswer.the-variants.{Line, RefusedDraw}
 use Rattle.bench.specs.declared.BenchTurn.{BenchTurn}
+use Rattle.bench.proofs.StationsLaws.{draw-at, line-at, length-moved, length-done}
 
--- ---- lists of stations and draws
+-- ---- lists of stations
 
 ok-all : (ss : List Station) → ((i : ℕ) → i < length ss → stationOk (getD ss i emptyStation) ≡ true) → stationsOk ss ≡ true
 unfolding stationsOk
 ok-all [] ok = refl
 ok-all (s ∷ ss) ok = rw (ok 0 (suc-le-suc zero-le)) (ok-all ss (λ i h. ok (suc i) (suc-le-suc h)))
 
-ok-each : (ds : List ℕ) → drawsOk ds ≡ true → (i : ℕ) → i < length ds → drawOk (getD ds i 0) ≡ true
-unfolding drawsOk
-ok-each [] ok i h = absurd (not-suc-le-zero h)
-ok-each (d ∷ ds) ok zero h = and-eq-true-iff (drawOk d) (drawsOk ds) .0 ok .0
-ok-each (d ∷ ds) ok (suc i) h = ok-each ds (and-eq-true-iff (drawOk d) (drawsOk ds) .0 ok .1) i (le-of-suc-le-suc h)
-
 module _ (line : ℕ) where
   -- the turn of the station at a place, with the draw at that place
   abbrev pub turnAt : List Station → List ℕ → ℕ → Turn
   turnAt ss ds i = turnOf (getD ss i emptyStation) line (getD ds i 0)
-
-  lengths : (ss : List Station) (ds : List ℕ) → (length (moveAll line ss ds) ≡ length ss) × (length (doneAll line ss ds) ≡ length ss)
-  unfolding moveAll doneAll
-  lengths [] ds = (refl, refl)
-  lengths (s ∷ ss) [] = (refl, ap suc (lengths ss [] .1))
-  lengths (s ∷ ss) (d ∷ ds) = let e = lengths ss ds in (ap suc (e .0), ap suc (e .1))
 
   turned : (ss : List Station) (ds : List ℕ) (i : ℕ) → i < length ss → i < length ds
       → (getD (moveAll line ss ds) i emptyStation ≡ turnAt ss ds i .next) × (getD (doneAll line ss ds) i false ≡ isDone (turnAt ss ds i .answer))
@@ -58,12 +47,6 @@ module _ (line : ℕ) where
   turned (s ∷ ss) (d ∷ ds) (suc i) h k = turned ss ds i (le-of-suc-le-suc h) (le-of-suc-le-suc k)
 
 -- ---- the line
-
-line-above : (ss : List Station) (i : ℕ) → i < length ss → sendsOf (getD ss i emptyStation) ≤ lineOf ss
-unfolding lineOf
-line-above [] i h = absurd (not-suc-le-zero h)
-line-above (s ∷ ss) zero h = omega arith
-line-above (s ∷ ss) (suc i) h = omega (arith, line-above ss i (le-of-suc-le-suc h))
 
 -- 0, or what some station sends
 line-some : (ss : List Station) → (lineOf ss ≡ 0) ⊎ ((i : ℕ) × (i < length ss) × (sendsOf (getD ss i emptyStation) ≡ lineOf ss))
@@ -139,8 +122,8 @@ module _ (n : ℕ) (slots : List Station) (draws : List ℕ) (low : 1 ≤ n) (hi
     all-turn =
         let moves : List Station = moveAll line (take n slots) (take n draws) in
         let marks : List Bool = doneAll line (take n slots) (take n draws) in
-        let many : length moves ≡ length (take n slots) = lengths line (take n slots) (take n draws) .0 in
-        let each : length marks ≡ length (take n slots) = lengths line (take n slots) (take n draws) .1 in
+        let many : length moves ≡ length (take n slots) = length-moved line (take n slots) (take n draws) in
+        let each : length marks ≡ length (take n slots) = length-done line (take n slots) (take n draws) in
         record {
           answers = refl;
           same = length-front slots moves n many;
@@ -153,8 +136,8 @@ module _ (n : ℕ) (slots : List Station) (draws : List ℕ) (low : 1 ≤ n) (hi
               List·getD-append marks (replicate (length slots - n) false) false i (omega (arith, each, count))
               ∙ turned line (take n slots) (take n draws) i (omega (arith, count)) (omega (arith, drawn)) .1
               ∙ ap (λ (t : Turn). isDone (t .answer)) (taken-turn i h);
-          draw = λ i h. rw (getD-take n draws i 0 h) at (ok-each (take n draws) fine i (omega (arith, drawn)));
-          above = λ i h. rw (getD-take n slots i emptyStation h) at (line-above (take n slots) i (omega (arith, count)));
+          draw = λ i h. draw-at n draws enough i h fine;
+          above = λ i h. line-at n slots room i h emptyStation;
           some = some-sends (line-some (take n slots));
         }
 

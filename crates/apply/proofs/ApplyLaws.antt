@@ -15,7 +15,7 @@ use lib.Dec.{eqb, leb, ltb}
 use lib.ListN.{length}
 use Rattle.message.specs.Choice.{pick}
 use Rattle.message.specs.Messages.{messageOk}
-use Rattle.message.specs.Numbers.{NONE, NOT-CARRIED}
+use Rattle.message.specs.Numbers.{Answer, NONE, NOT-CARRIED}
 use Rattle.message.specs.declared.Message.{Message}
 use Rattle.message.specs.declared.Message.the-variants.{Address, Function as Command, Extended}
 use Rattle.record.specs.Layout.{RECORDS, HOUSES, TABLE-BYTES, houseOf, heardAt}
@@ -25,7 +25,7 @@ use Rattle.record.specs.declared.Plan.{Plan}
 use Rattle.record.specs.declared.Plan.the-variants.{Run, NotCarried}
 use Rattle.table.specs.Lent.{inTable, ranIn}
 use Rattle.table.proofs.TableLaws.{changed-none}
-use Rattle.apply.specs.Applied.{Answer, Carried, planIn, planNumber, numberFor, tableAfter, rightAnswer}
+use Rattle.apply.specs.Applied.{Carried, planIn, planNumber, numberFor, tableAfter, rightAnswer}
 
 pub refused : (m : Message) (t : List ℕ) (n : ℕ) → numberFor m t ≡ n → eqb n NONE ≡ false → (record { number = n; count = 0 } ≡ rightAnswer m t) × (t ≡ tableAfter m t)
 unfolding rightAnswer tableAfter

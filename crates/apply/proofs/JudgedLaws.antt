@@ -10,12 +10,12 @@ use lib.Dec.{eqb}
 use lib.ListN.{length}
 use Rattle.message.specs.Choice.{pick}
 use Rattle.message.specs.Messages.{messageOk}
-use Rattle.message.specs.Numbers.{NONE}
+use Rattle.message.specs.Numbers.{Answer, NONE}
 use Rattle.message.specs.declared.Message.{Message}
 use Rattle.record.specs.Layout.{RECORDS, TABLE-BYTES}
 use Rattle.record.specs.ModuleTable.{tableOk, carriedOut, changed}
 use Rattle.table.proofs.TableLaws.{changed-none}
-use Rattle.apply.specs.Applied.{Answer, Carried, planIn, planNumber, numberFor, tableAfter, rightAnswer}
+use Rattle.apply.specs.Applied.{Carried, planIn, planNumber, numberFor, tableAfter, rightAnswer}
 use Rattle.apply.specs.Judged.{judgedNumber, judgedTable, judgedAnswer}
 use Rattle.apply.proofs.ApplyLaws.{stays}
 

@@ -7,7 +7,7 @@ use lib.Dec.{eqb}
 use lib.ListN.{length}
 use Rattle.message.specs.Choice.{pick}
 use Rattle.message.specs.Messages.{messageOk}
-use Rattle.message.specs.Numbers.{NONE, TABLE, MESSAGE, RECORD, NOT-CARRIED}
+use Rattle.message.specs.Numbers.{Answer, answered, refusal, NONE, TABLE, MESSAGE, RECORD, NOT-CARRIED}
 use Rattle.message.specs.declared.Message.{Message}
 use Rattle.record.specs.Layout.{RECORDS, TABLE-BYTES, houseOf, heardAt}
 use Rattle.record.specs.ModuleTable.{tableOk, planOf, carriedOut, changed}
@@ -16,18 +16,13 @@ use Rattle.record.specs.declared.Plan.the-variants.{Run as Runs, NotCarried as 
 use Rattle.apply.specs.declared.ApplyAnswer.{ApplyAnswer}
 use Rattle.apply.specs.declared.ApplyAnswer.the-variants.{Applied, RefusedTable, RefusedMessage, RefusedRecord, NotCarried}
 
--- the number given back, and how many records have another level than before
-pub record Answer : Type 0 where
-  pub number : ℕ
-  pub count : ℕ
-
--- what each answer of the routine means: "Each refusal .. returns its number with count 0"
+-- what each answer of the routine means: the count is of the records that have another level than before
 abbrev pub answerOf : ApplyAnswer → Answer
-answerOf (Applied n) = record { number = NONE; count = n }
-answerOf RefusedTable = record { number = TABLE; count = 0 }
-answerOf RefusedMessage = record { number = MESSAGE; count = 0 }
-answerOf RefusedRecord = record { number = RECORD; count = 0 }
-answerOf NotCarried = record { number = NOT-CARRIED; count = 0 }
+answerOf (Applied n) = answered NONE n
+answerOf RefusedTable = refusal TABLE
+answerOf RefusedMessage = refusal MESSAGE
+answerOf RefusedRecord = refusal RECORD
+answerOf NotCarried = refusal NOT-CARRIED
 
 -- what a message asks of a table, by the "command heard" byte of its house
 abbrev pub planIn : Message → List ℕ → Plan
@@ -40,7 +35,7 @@ planNumber Uncarried = NOT-CARRIED
 -- a message that is not refused for other reasons, before and after
 pub record Carried (m : Message) (before after : List ℕ) (answer : Answer) : Type 0 where
   pub table : after ≡ carriedOut m (planIn m before) before
-  pub right : answer ≡ record { number = planNumber (planIn m before); count = changed RECORDS before after }
+  pub right : answer ≡ answered (planNumber (planIn m before)) (changed RECORDS before after)
 
 -- "Within one routine the lowest number that applies is given.": table length not 2,064; house or unit above 15; table breaks a
 -- rule; NOT CARRIED
@@ -56,4 +51,4 @@ tableAfter m t = pick (eqb (numberFor m t) NONE) (carriedOut m (planIn m t) t) t
 
 -- the right answer: "The result counts the records whose level differs before and after."
 unfoldable pub rightAnswer : Message → List ℕ → Answer
-rightAnswer m t = record { number = numberFor m t; count = changed RECORDS t (tableAfter m t) }
+rightAnswer m t = answered (numberFor m t) (changed RECORDS t (tableAfter m t))

@@ -6,11 +6,11 @@ use lib.Dec.{eqb}
 use lib.ListN.{length}
 use Rattle.message.specs.Choice.{pick}
 use Rattle.message.specs.Messages.{messageOk}
-use Rattle.message.specs.Numbers.{NONE, TABLE, MESSAGE}
+use Rattle.message.specs.Numbers.{Answer, answered, NONE, TABLE, MESSAGE}
 use Rattle.message.specs.declared.Message.{Message}
 use Rattle.record.specs.Layout.{RECORDS, TABLE-BYTES}
 use Rattle.record.specs.ModuleTable.{carriedOut, changed}
-use Rattle.apply.specs.Applied.{Answer, planIn, planNumber}
+use Rattle.apply.specs.Applied.{planIn, planNumber}
 
 -- the lowest number that applies but for 3, that a record breaks a rule
 unfoldable pub judgedNumber : Message → List ℕ → ℕ
@@ -22,4 +22,4 @@ judgedTable m t = pick (eqb (judgedNumber m t) NONE) (carriedOut m (planIn m t) 
 
 -- the answer
 unfoldable pub judgedAnswer : Message → List ℕ → Answer
-judgedAnswer m t = record { number = judgedNumber m t; count = changed RECORDS t (judgedTable m t) }
+judgedAnswer m t = answered (judgedNumber m t) (changed RECORDS t (judgedTable m t))

@@ -10,9 +10,9 @@ use native.Mathlib.Nat.{div-add-mod, mul-div-cancel-left, mul-mod-right}
 use native.Mathlib.Omega.{arith}
 use lib.Dec.{eqb}
 use lib.ListN.{length}
-use Rattle.message.specs.Numbers.{NONE}
+use Rattle.message.specs.Numbers.{Answer, NONE}
 use Rattle.station.specs.declared.Station.{Station}
-use Rattle.bench_run.specs.BenchRuns.{slotsFrom, Called, Answer, Lent, runNumber, turnsOf, runAnswer, linesAfter, marksAfter}
+use Rattle.bench_run.specs.BenchRuns.{slotsFrom, Called, Lent, runNumber, turnsOf, runAnswer, linesAfter, marksAfter}
 
 pub draws-match : (n draws calls : ℕ) → draws / n ≡ calls → draws % n ≡ 0 → draws ≡ n * calls
 draws-match n draws calls q r = sym (div-add-mod draws n) ∙ rw (q, r) (omega arith)

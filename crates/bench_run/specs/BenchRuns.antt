@@ -7,7 +7,7 @@ use lib.Dec.{eqb, leb}
 use lib.ListN.{length, drop, replicate}
 use Rattle.message.specs.Choice.{pick}
 use Rattle.message.specs.Messages.{messageOk}
-use Rattle.message.specs.Numbers.{NONE, MESSAGE, STATE, DRAW, SHORT}
+use Rattle.message.specs.Numbers.{Answer, answered, refusal, NONE, MESSAGE, STATE, DRAW, SHORT}
 use Rattle.station.specs.Stations.{emptyStation, loadOf}
 use Rattle.station.specs.declared.Station.{Station}
 use Rattle.bench.specs.Benches.{mostStations, drawsOk, benchOf}
@@ -85,17 +85,13 @@ pub record Called (n : ℕ) (slots : List Station) (draws lines marks : List ℕ
 
 -- ---- the run
 
--- what each answer means: the number, and the calls that were not refused
-pub record Answer : Type 0 where
-  pub number : ℕ
-  pub count : ℕ
-
+-- what each answer means: the count is of the calls that were not refused
 abbrev pub benchMeans : BenchRunAnswer → Answer
-benchMeans (Ran n) = record { number = NONE; count = n }
-benchMeans RefusedMessage = record { number = MESSAGE; count = 0 }
-benchMeans RefusedState = record { number = STATE; count = 0 }
-benchMeans RefusedDraw = record { number = DRAW; count = 0 }
-benchMeans RefusedShort = record { number = SHORT; count = 0 }
+benchMeans (Ran n) = answered NONE n
+benchMeans RefusedMessage = refusal MESSAGE
+benchMeans RefusedState = refusal STATE
+benchMeans RefusedDraw = refusal DRAW
+benchMeans RefusedShort = refusal SHORT
 
 -- the five slices that are lent
 pub record Lent : Type 0 where
@@ -123,7 +119,7 @@ unfoldable pub turnsOf : Lent → List BenchTurn
 turnsOf l = callsOf (length (l .lines)) (length (l .loads)) (slotsFrom (l .messages) (l .loads)) (l .draws)
 
 unfoldable pub runAnswer : Lent → Answer
-runAnswer l = record { number = runNumber l; count = pick (eqb (runNumber l) NONE) (counted (turnsOf l)) 0 }
+runAnswer l = answered (runNumber l) (pick (eqb (runNumber l) NONE) (counted (turnsOf l)) 0)
 
 -- the lines and the marks at exit; bytes of marks beyond stay
 unfoldable pub linesAfter : Lent → List ℕ

@@ -1,7 +1,7 @@
 -- A press: one radio command and its two bursts; the unit that is addressed is lit by On and darkened by Off, and one that is let go is not.
 --
 --     press, recall     the theorems of specs/Press.antt
-use mathlib.Core.Path.{_≡_, refl, sym, ap, _∙_}
+use mathlib.Core.Path.{_≡_, refl, ap, _∙_}
 use mathlib.Core.Bool.{Bool, true, false, not, _&&_, and-eq-true-iff}
 use mathlib.Core.List.{List, [], _∷_, flatMap}
 use Prim.Native.Nat.{ℕ, _+_, _*_, _<_}

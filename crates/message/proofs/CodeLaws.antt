@@ -5,22 +5,19 @@
 --     code-below, number-below               codes and numbers are below 16
 --     meaning-of-function, function-of-meaning     a function's code read back, both ways
 --     extended-meaning, function-code-below        code 7 alone is extended; function codes are below 16
-use mathlib.Core.Path.{_≡_, refl, sym, ap, subst, _∙_}
+use mathlib.Core.Path.{_≡_, refl, sym, ap, _∙_}
 use mathlib.Core.Bool.{Bool, true, false, _&&_}
 use mathlib.Core.List.{List, [], _∷_}
-use Prim.Native.Nat.{ℕ, zero, suc, _≤_, _<_}
-use native.Mathlib.Omega.{arith}
-use native.Mathlib.Decide.{decLt}
+use Prim.Native.Nat.{ℕ, _<_}
 use borrow.Author.Tests.{eqb-true, ltb-true}
 use lib.Dec.{eqb, ltb, lit<}
-use lib.ListN.{length, getD, List·getD-eq-default}
 use Rattle.message.specs.Text.{bytesOf, bytesFrom}
 use Rattle.message.specs.Codes.{lineCodes, placeIn, codeOf, numberOf, functionNames, nameAt, functionCode, meanings, meaningOf}
 use Rattle.message.specs.declared.Function.{Function}
 use Rattle.message.specs.declared.Function.the-variants.{AllUnitsOff, AllLightsOn, On, Off, Dim, Bright, AllLightsOff, HailRequest, HailAcknowledge, StatusOn, StatusOff, StatusRequest}
 use Rattle.message.specs.declared.Meaning.{Meaning}
 use Rattle.message.specs.declared.Meaning.the-variants.{Function as Carries, Extended, Unsupported}
-use Rattle.message.proofs.Tables.{everyFrom, every-at, ReadsBack, read-back, one-to-one}
+use Rattle.message.proofs.Tables.{everyFrom, every-at, ReadsBack, read-back, one-to-one, entry-below}
 
 -- ---- the line codes
 
@@ -38,13 +35,7 @@ number-of-code n h = read-back eqb lineCodes 0 n codes-read-back h
 
 pub code-below : (n : ℕ) → codeOf n < 16
 unfolding codeOf lineCodes
-code-below n = go (decLt n 16)
-  where
-    go : Dec (n < 16) → codeOf n < 16
-    go (yes h) = ltb-true (getD lineCodes n 0) 16 (every-at (λ k x. ltb x 16) lineCodes 0 n refl h)
-    go (no h) =
-        let past : 16 ≤ n = omega arith in
-        rw (List·getD-eq-default lineCodes 0 past) (lit< tt)
+code-below n = entry-below lineCodes n 16 0 refl (lit< tt)
 
 -- the sixteen codes, one after the other
 sixteen : List ℕ

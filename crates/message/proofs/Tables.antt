@@ -4,8 +4,9 @@
 --     ReadsBack   each entry is found at its own place             read-back   the entry at k is found at k
 --     one-to-one  such a table has no entry twice                  place-absent   what no entry equals is found nowhere
 --     getD-any    an entry within the table is the same whatever the default
-use mathlib.Core.Path.{_≡_, refl, sym, ap, ap₂, subst, _∙_}
-use mathlib.Core.Bool.{Bool, true, false, _&&_, and-eq-true-iff}
+--     entry-below what stands at any place is below the bound of all entries
+use mathlib.Core.Path.{_≡_, refl, sym, ap, _∙_}
+use mathlib.Core.Bool.{Bool, true, _&&_, and-eq-true-iff}
 use mathlib.Core.List.{List, [], _∷_}
 use Prim.Native.Nat.{ℕ, zero, suc, _+_, _≤_, _<_}
 use native.Mathlib.Nat.{add-zero, zero-add, add-suc, suc-add, le-of-suc-le-suc, not-suc-le-zero}
@@ -13,7 +14,6 @@ use native.Mathlib.Omega.{arith}
 use borrow.Author.Tests.{eqb-true, ltb-true, ne-eqb}
 use lib.Dec.{eqb, ltb}
 use lib.ListN.{length, getD}
-use Rattle.message.specs.Choice.{pick}
 use Rattle.message.specs.Codes.{placeIn}
 
 -- the test f holds at each entry with its place, counted from i
@@ -56,3 +56,10 @@ place-absent (x ∷ xs) c b i t h =
     let low = and-eq-true-iff (ltb x b) (everyFrom (λ k x. ltb x b) (suc i) xs) .0 t in
     let below : x < b = ltb-true x b (low .0) in
     rw (ne-eqb c x (λ e. omega arith)) (ap suc (place-absent xs c b (suc i) (low .1) h))
+
+-- what stands at any place of a table whose entries are below b, and past its end
+pub entry-below : (xs : List ℕ) (n b i : ℕ) → everyFrom (λ k x. ltb x b) i xs ≡ true → 0 < b → getD xs n 0 < b
+entry-below [] n b i t l = l
+entry-below (x ∷ xs) zero b i t l = ltb-true x b (and-eq-true-iff (ltb x b) (everyFrom (λ k y. ltb y b) (suc i) xs) .0 t .0)
+entry-below (x ∷ xs) (suc n) b i t l =
+    entry-below xs n b (suc i) (and-eq-true-iff (ltb x b) (everyFrom (λ k y. ltb y b) (suc i) xs) .0 t .1) l

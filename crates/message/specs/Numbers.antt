@@ -60,3 +60,15 @@ CODE = 14
 -- sent 1, heard 0
 abbrev pub FAULT : ℕ
 FAULT = 15
+
+-- an answer that counts: the number given back, and the count
+pub record Answer : Type 0 where
+  pub number : ℕ
+  pub count : ℕ
+
+abbrev pub answered : ℕ → ℕ → Answer
+answered n k = record { number = n; count = k }
+
+-- "Each refusal .. returns its number with count 0"
+abbrev pub refusal : ℕ → Answer
+refusal n = answered n 0

@@ -7,16 +7,14 @@
 --     below, both-below                   the numbers of a valid command
 --     bytes-one-to-one                    no two valid commands have the same b and c
 use mathlib.Core.Path.{_≡_, refl, sym, ap, ap₂, _∙_}
-use mathlib.Core.Bool.{Bool, true, _&&_, and-eq-true-iff}
-use mathlib.Core.List.{List, [], _∷_}
-use Prim.Native.Nat.{ℕ, zero, suc, _+_, _*_, _/_, _%_, _≤_, _<_}
+use mathlib.Core.Bool.{true, _&&_, and-eq-true-iff}
+use Prim.Native.Nat.{ℕ, _+_, _*_, _/_, _%_, _≤_, _<_}
 use native.Mathlib.Omega.{arith}
 use borrow.Author.Tests.{eqb-true, ltb-true, leb-true, ne-eqb}
 use lib.Dec.{eqb, ltb, leb, lit<}
-use lib.ListN.{getD}
 use Rattle.message.specs.Choice.{pick}
 use Rattle.message.specs.Codes.{placeIn}
-use Rattle.message.proofs.Tables.{everyFrom, every-at, ReadsBack, read-back, one-to-one}
+use Rattle.message.proofs.Tables.{every-at, ReadsBack, read-back, one-to-one, entry-below}
 use Rattle.radio.specs.Codes.{houseNibbles, nibbleOf, houseOf, houseInB, unitInB, unitInC, byteB, byteC, commandOk, sixteen}
 use Rattle.radio.specs.declared.RadioCommand.{RadioCommand}
 use Rattle.radio.specs.declared.RadioCommand.the-variants.{On, Off, Bright, Dim}
@@ -35,29 +33,17 @@ pub house-of-nibble : (h : ℕ) → h < 16 → houseOf (nibbleOf h) ≡ h
 unfolding nibbleOf houseOf houseNibbles
 house-of-nibble h l = read-back eqb houseNibbles 0 h nibbles-read-back l
 
--- what stands at any place of a table whose entries are below b, and past its end
-entry-below : (xs : List ℕ) (n b i : ℕ) → everyFrom (λ k x. ltb x b) i xs ≡ true → 0 < b → getD xs n 0 < b
-entry-below [] n b i t l = l
-entry-below (x ∷ xs) zero b i t l = ltb-true x b (and-eq-true-iff (ltb x b) (everyFrom (λ k y. ltb y b) (suc i) xs) .0 t .0)
-entry-below (x ∷ xs) (suc n) b i t l =
-    entry-below xs n b (suc i) (and-eq-true-iff (ltb x b) (everyFrom (λ k y. ltb y b) (suc i) xs) .0 t .1) l
-
 pub nibble-below : (h : ℕ) → nibbleOf h < 16
 unfolding nibbleOf houseNibbles
 nibble-below h = entry-below houseNibbles h 16 0 refl (lit< tt)
 
--- what a test says at each of the sixteen numbers
-at-sixteen : (f : ℕ → Bool) → everyFrom (λ k x. f k) 0 sixteen ≡ true → (n : ℕ) → n < 16 → f n ≡ true
-unfolding sixteen
-at-sixteen f t n l = every-at (λ k x. f k) sixteen 0 n t l
-
 pub nibble-of-house : (n : ℕ) → n < 16 → nibbleOf (houseOf n) ≡ n
 unfolding nibbleOf houseOf houseNibbles placeIn sixteen
-nibble-of-house n l = eqb-true (nibbleOf (houseOf n)) n (at-sixteen (λ k. eqb (nibbleOf (houseOf k)) k) refl n l)
+nibble-of-house n l = eqb-true (nibbleOf (houseOf n)) n (every-at (λ k x. eqb (nibbleOf (houseOf k)) k) sixteen 0 n refl l)
 
 pub house-below : (n : ℕ) → n < 16 → houseOf n < 16
 unfolding houseOf houseNibbles placeIn sixteen
-house-below n l = ltb-true (houseOf n) 16 (at-sixteen (λ k. ltb (houseOf k) 16) refl n l)
+house-below n l = ltb-true (houseOf n) 16 (every-at (λ k x. ltb (houseOf k) 16) sixteen 0 n refl l)
 
 -- ---- bits
 
@@ -79,7 +65,7 @@ pub digits : (n : ℕ) → n < 16 → n / 8 % 2 * 8 + n / 4 % 2 * 4 + n / 2 % 2 
 unfolding sixteen
 digits n l =
     eqb-true (n / 8 % 2 * 8 + n / 4 % 2 * 4 + n / 2 % 2 * 2 + n % 2) n
-    (at-sixteen (λ k. eqb (k / 8 % 2 * 8 + k / 4 % 2 * 4 + k / 2 % 2 * 2 + k % 2) k) refl n l)
+    (every-at (λ k x. eqb (k / 8 % 2 * 8 + k / 4 % 2 * 4 + k / 2 % 2 * 2 + k % 2) k) sixteen 0 n refl l)
 
 -- ---- a command from its b and its c
 

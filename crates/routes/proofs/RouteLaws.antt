@@ -6,17 +6,15 @@
 --     heeded                        an event on a judged table
 --     mains-refused, mains-heard    the mains route
 use mathlib.Core.Path.{_≡_, refl, sym, ap, subst, _∙_}
-use mathlib.Core.Bool.{Bool, true, false}
+use mathlib.Core.Bool.{true, false}
 use mathlib.Core.List.{List, [], _∷_, _++_, append-nil, flatMap, head-eq-of-cons-eq}
 use Prim.Native.Nat.{ℕ, _<_}
 use native.Mathlib.Omega.{arith}
 use borrow.Author.Tests.{eq-eqb}
 use lib.Dec.{eqb}
 use lib.ListN.{length}
-use Rattle.message.specs.Choice.{pick}
-use Rattle.message.specs.Numbers.{NONE}
+use Rattle.message.specs.Numbers.{Answer, answered, NONE}
 use Rattle.message.specs.declared.Message.{Message}
-use Rattle.message.specs.declared.Message.the-variants.{Address}
 use Rattle.radio.specs.Codes.{commandOk}
 use Rattle.radio.specs.Answers.{Answer as Answers, given, readAnswer, messagesOf, messagesAnswer, answerOfMessages}
 use Rattle.radio.specs.declared.RadioCommand.{RadioCommand}
@@ -30,11 +28,11 @@ use Rattle.receiver.specs.declared.Heard.{Heard}
 use Rattle.record.specs.Layout.{RECORDS, TABLE-BYTES, recordAt}
 use Rattle.record.specs.ModuleTable.{tableOk, changed}
 use Rattle.table.proofs.TableLaws.{changed-none}
-use Rattle.apply.specs.Applied.{Answer, tableAfter, rightAnswer}
+use Rattle.apply.specs.Applied.{tableAfter, rightAnswer}
 use Rattle.apply.specs.Judged.{judgedTable, judgedAnswer}
 use Rattle.apply.proofs.JudgedLaws.{judged-right}
 use Rattle.table_laws.proofs.Theorems.{valid-stays}
-use Rattle.routes.specs.Routes.{applyAll, judged, answered, meantBy, radioNumber, radioTable, radioAnswer, eventNumber, eventTable, eventAnswer, heedAnswer, heedTable, Turn, unheardBy, mainsTable, mainsTurn}
+use Rattle.routes.specs.Routes.{applyAll, judged, meantBy, radioNumber, radioTable, radioAnswer, eventNumber, eventTable, eventAnswer, heedAnswer, heedTable, unheardBy, mainsTable, mainsTurn}
 use Rattle.routes.proofs.Levels.{address-levels, levels-count}
 
 -- ---- a radio command on a judged table

@@ -6,7 +6,7 @@ use mathlib.Core.List.{List, [], _∷_, flatMap}
 use lib.Dec.{eqb}
 use lib.ListN.{length}
 use Rattle.message.specs.Choice.{pick}
-use Rattle.message.specs.Numbers.{NONE, TABLE, RECORD, HALF, STATE, RF-LENGTH, COMPLEMENT, CODE}
+use Rattle.message.specs.Numbers.{Answer, answered, refusal, NONE, TABLE, RECORD, HALF, STATE, RF-LENGTH, COMPLEMENT, CODE}
 use Rattle.message.specs.declared.Message.{Message}
 use Rattle.radio.specs.Answers.{readAnswer, messagesOf}
 use Rattle.receiver.specs.Receivers.{stepOf}
@@ -16,7 +16,7 @@ use Rattle.receiver.specs.declared.Event.the-variants.{Nothing, Message as Give
 use Rattle.hearing.specs.Inversion.{givenBy}
 use Rattle.record.specs.Layout.{RECORDS, TABLE-BYTES}
 use Rattle.record.specs.ModuleTable.{tableOk, changed}
-use Rattle.apply.specs.Applied.{Answer, answerOf, numberFor, tableAfter}
+use Rattle.apply.specs.Applied.{answerOf, numberFor, tableAfter}
 use Rattle.apply.specs.Judged.{judgedTable, judgedAnswer}
 use Rattle.routes.specs.declared.RadioRouteAnswer.{RadioRouteAnswer}
 use Rattle.routes.specs.declared.RadioRouteAnswer.the-variants as radio
@@ -33,19 +33,16 @@ applyAll (m ∷ ms) t = applyAll ms (tableAfter m t)
 unfoldable pub judged : List ℕ → ℕ → ℕ
 judged t n = pick (eqb (length t) TABLE-BYTES) (pick (tableOk t) n RECORD) TABLE
 
-abbrev pub answered : ℕ → ℕ → Answer
-answered n k = record { number = n; count = k }
-
 -- ---- by radio
 
 -- what each answer means
 abbrev pub radioMeans : RadioRouteAnswer → Answer
 radioMeans (radio.Applied n) = answered NONE n
-radioMeans radio.RefusedTable = answered TABLE 0
-radioMeans radio.RefusedRecord = answered RECORD 0
-radioMeans radio.RefusedLength = answered RF-LENGTH 0
-radioMeans radio.RefusedComplement = answered COMPLEMENT 0
-radioMeans radio.RefusedCode = answered CODE 0
+radioMeans radio.RefusedTable = refusal TABLE
+radioMeans radio.RefusedRecord = refusal RECORD
+radioMeans radio.RefusedLength = refusal RF-LENGTH
+radioMeans radio.RefusedComplement = refusal COMPLEMENT
+radioMeans radio.RefusedCode = refusal CODE
 
 -- the messages that a code means: those of the command that it names, and none where the reader refuses it
 unfoldable pub meantBy : List ℕ → List Message
@@ -68,10 +65,10 @@ radioAnswer code t = answered (radioNumber code t) (changed RECORDS t (radioTabl
 abbrev pub mainsMeans : MainsAnswer → Answer
 mainsMeans mains.Quiet = answered NONE 0
 mainsMeans (mains.Given a) = answerOf a
-mainsMeans mains.RefusedTable = answered TABLE 0
-mainsMeans mains.RefusedRecord = answered RECORD 0
-mainsMeans mains.RefusedHalf = answered HALF 0
-mainsMeans mains.RefusedState = answered STATE 0
+mainsMeans mains.RefusedTable = refusal TABLE
+mainsMeans mains.RefusedRecord = refusal RECORD
+mainsMeans mains.RefusedHalf = refusal HALF
+mainsMeans mains.RefusedState = refusal STATE
 
 -- the number that goes with an event: 5 and 6 where the receiver refused; of a message what applying it gives back, which may be 4
 abbrev pub eventNumber : Event → List ℕ → ℕ
@@ -97,8 +94,8 @@ heedAnswer (Gives m) t = judgedAnswer m t
 heedAnswer Repeat t = answered NONE 0
 heedAnswer BrokenPair t = answered NONE 0
 heedAnswer BrokenUnsupported t = answered NONE 0
-heedAnswer NoHalf t = answered HALF 0
-heedAnswer NoState t = answered STATE 0
+heedAnswer NoHalf t = refusal HALF
+heedAnswer NoState t = refusal STATE
 
 abbrev pub heedTable : Event → List ℕ → List ℕ
 heedTable Nothing t = t

@@ -11,13 +11,12 @@ use borrow.Author.Tests.{eq-eqb, ne-eqb, le-leb, lt-leb}
 use lib.Dec.{eqb, leb}
 use lib.ListN.{length}
 use Rattle.message.specs.Choice.{pick}
-use Rattle.message.specs.Numbers.{NONE, HALF, STATE, SHORT}
+use Rattle.message.specs.Numbers.{Answer, NONE, HALF, STATE, SHORT}
 use Rattle.receiver.specs.Receivers.{stepOf}
 use Rattle.receiver.specs.declared.Receiver.{Receiver}
 use Rattle.receiver.specs.declared.Heard.{Heard}
 use Rattle.record.specs.Layout.{TABLE-BYTES}
 use Rattle.record.specs.ModuleTable.{tableOk}
-use Rattle.apply.specs.Applied.{Answer}
 use Rattle.routes.specs.Routes.{judged, eventTable, eventAnswer, heedAnswer, heedTable}
 use Rattle.routes.proofs.RouteLaws.{heeded}
 use Rattle.wire.specs.Receivers.{stateAfter, firstAfter}

@@ -1,7 +1,7 @@
 -- `x10_apply` meets its contract: what `apply` promises for the message that the numbers say, and 2 where they say none.
 use mathlib.Core.Path.{sym, ap, _∙_}
 use borrow.Author.Tests.{eq-eqb, ne-eqb}
-use Rattle.apply.specs.Applied.{Answer}
+use Rattle.message.specs.Numbers.{Answer}
 use Rattle.x10.specs.Packed.{packed}
 use borrow.Author.Needs.{needs}
 use Rattle.x10.proofs.x10_apply.Statement.{statement}

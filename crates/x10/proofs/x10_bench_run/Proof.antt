@@ -1,6 +1,6 @@
 -- `x10_bench_run` meets its contract: it is the run's own promise.
 use mathlib.Core.Path.{ap, _∙_}
-use Rattle.bench_run.specs.BenchRuns.{Answer}
+use Rattle.message.specs.Numbers.{Answer}
 use Rattle.x10.specs.Packed.{packed}
 use borrow.Author.Needs.{needs}
 use Rattle.x10.proofs.x10_bench_run.Statement.{statement}

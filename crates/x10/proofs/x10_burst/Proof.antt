@@ -1,6 +1,6 @@
 -- `x10_burst` meets its contract: the writer's own promise for the message that the numbers say, and 2 where they say none.
 use mathlib.Core.Path.{sym, ap, _∙_}
-use Rattle.burst.specs.Writer.{Answer}
+use Rattle.message.specs.Numbers.{Answer}
 use Rattle.x10.specs.Packed.{packed}
 use borrow.Author.Needs.{needs}
 use Rattle.x10.proofs.x10_burst.Statement.{statement}

@@ -1,6 +1,6 @@
 -- `x10_radio_route` meets its contract: it is the route's own promise.
 use mathlib.Core.Path.{ap, _∙_}
-use Rattle.apply.specs.Applied.{Answer}
+use Rattle.message.specs.Numbers.{Answer}
 use Rattle.x10.specs.Packed.{packed}
 use borrow.Author.Needs.{needs}
 use Rattle.x10.proofs.x10_radio_route.Statement.{statement}
