@@ -5,13 +5,13 @@
 --     ran-carried, not-carried      the two plans
 --     stays             a plan that does not run leaves the bytes
 --     house-below       the house of a message that is not refused is one of the sixteen
-use mathlib.Core.Path.{_≡_, refl, sym, ap, subst, _∙_}
-use mathlib.Core.Bool.{Bool, true, false, _&&_, and-eq-true-iff}
+use mathlib.Core.Path.{_≡_, refl, sym, ap, _∙_}
+use mathlib.Core.Bool.{true, false, and-eq-true-iff}
 use mathlib.Core.List.{List}
-use Prim.Native.Nat.{ℕ, _+_, _≤_, _<_}
+use Prim.Native.Nat.{ℕ, _≤_, _<_}
 use native.Mathlib.Omega.{arith}
 use borrow.Author.Tests.{eq-eqb, lt-ltb, leb-true}
-use lib.Dec.{eqb, leb, ltb}
+use lib.Dec.{eqb, leb}
 use lib.ListN.{length}
 use Rattle.message.specs.Choice.{pick}
 use Rattle.message.specs.Messages.{messageOk}
@@ -19,7 +19,7 @@ use Rattle.message.specs.Numbers.{Answer, NONE, NOT-CARRIED}
 use Rattle.message.specs.declared.Message.{Message}
 use Rattle.message.specs.declared.Message.the-variants.{Address, Function as Command, Extended}
 use Rattle.record.specs.Layout.{RECORDS, HOUSES, TABLE-BYTES, houseOf, heardAt}
-use Rattle.record.specs.ModuleTable.{tableOk, planOf, heardAfter, runAct, carriedOut, changed}
+use Rattle.record.specs.ModuleTable.{tableOk, planOf, heardAfter, carriedOut, changed}
 use Rattle.record.specs.declared.Act.{Act}
 use Rattle.record.specs.declared.Plan.{Plan}
 use Rattle.record.specs.declared.Plan.the-variants.{Run, NotCarried}

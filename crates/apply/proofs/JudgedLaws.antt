@@ -2,7 +2,7 @@
 --
 --     judged-refused, judged-carried      what the routine owes at each return
 --     judged-number, judged-right         of a table that keeps the rules it is what `apply` promises
-use mathlib.Core.Path.{_≡_, refl, sym, ap, _∙_}
+use mathlib.Core.Path.{_≡_, sym, _∙_}
 use mathlib.Core.Bool.{true, false}
 use mathlib.Core.List.{List}
 use Prim.Native.Nat.{ℕ}
@@ -13,7 +13,7 @@ use Rattle.message.specs.Messages.{messageOk}
 use Rattle.message.specs.Numbers.{Answer, NONE}
 use Rattle.message.specs.declared.Message.{Message}
 use Rattle.record.specs.Layout.{RECORDS, TABLE-BYTES}
-use Rattle.record.specs.ModuleTable.{tableOk, carriedOut, changed}
+use Rattle.record.specs.ModuleTable.{tableOk, carriedOut}
 use Rattle.table.proofs.TableLaws.{changed-none}
 use Rattle.apply.specs.Applied.{Carried, planIn, planNumber, numberFor, tableAfter, rightAnswer}
 use Rattle.apply.specs.Judged.{judgedNumber, judgedTable, judgedAnswer}

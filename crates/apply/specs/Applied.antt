@@ -1,7 +1,6 @@
 -- A message applied to lent bytes (01, 'The module table', 'Numbers given back'): the number, the count, and the bytes at exit.
 use Prim.Native.Nat.{ℕ}
 use mathlib.Core.Path.{_≡_}
-use mathlib.Core.Bool.{Bool, true, false}
 use mathlib.Core.List.{List}
 use lib.Dec.{eqb}
 use lib.ListN.{length}

@@ -1,6 +1,5 @@
 -- A message applied to lent bytes whose records are not judged: whoever judged them before gets what `Applied` says.
 use Prim.Native.Nat.{ℕ}
-use mathlib.Core.Bool.{Bool, true, false}
 use mathlib.Core.List.{List}
 use lib.Dec.{eqb}
 use lib.ListN.{length}

@@ -6,7 +6,7 @@
 --     frames-one-to-one                                         two valid messages with equal frames are equal
 --     no-frame-begins-another                                   no frame is a proper beginning of another
 use mathlib.Core.Path.{_≡_, refl, sym, ap, ap₂, subst, _∙_}
-use mathlib.Core.Bool.{Bool, true, false}
+use mathlib.Core.Bool.{true}
 use mathlib.Core.List.{List, [], _∷_, _++_, append-nil}
 use Prim.Native.Nat.{ℕ, zero, suc, _+_, _-_, _*_, _/_, _%_, _^_, _≤_, _<_}
 use native.Mathlib.Nat.{suc-add, zero-add, add-comm, mod-eq-of-lt, mod-lt, mod-one, suc-ne-zero}
@@ -14,15 +14,14 @@ use native.Mathlib.Numerals.{one-add}
 use native.Mathlib.Decide.{decLt}
 use native.Mathlib.Omega.{arith}
 use lib.Dec.{lit<, lit≤}
-use lib.Pow.{pow-pos, shr-shr, mod-pow-add}
-use lib.ListN.{length, getD, take, drop, length-append, List·getD-append, List·getD-eq-default}
+use lib.Pow.{shr-shr, mod-pow-add}
+use lib.ListN.{length, getD, take, drop, length-append, List·getD-append}
 use lib.Seq.{take-at, getD-append-add}
 use Rattle.message.specs.Codes.{codeOf}
 use Rattle.message.specs.Messages.{messageOk, BytesOk}
 use Rattle.message.specs.Words.{wordOf, bitCount, nine, standardOf}
 use Rattle.message.specs.declared.Message.{Message}
 use Rattle.message.specs.declared.Message.the-variants.{Address, Function as Command, Extended}
-use Rattle.message.specs.declared.Reading.{Reading}
 use Rattle.message.specs.declared.Reading.the-variants.{Whole, Extended as Begun}
 use Rattle.message.proofs.CodeLaws.{code-below}
 use Rattle.message.proofs.WordLaws.{word-below, words-one-to-one, head-of-extended, standard-of-head, standard-of-address, standard-of-function}

@@ -7,8 +7,8 @@
 --     refused-message, refused-short, burst-written     what the writer owes at each return
 use mathlib.Core.Path.{_≡_, refl, sym, ap, ap₂, subst, _∙_}
 use mathlib.Core.Bool.{true, false}
-use mathlib.Core.List.{List, [], _∷_, _++_, append-assoc}
-use Prim.Native.Nat.{ℕ, zero, suc, _+_, _-_, _*_, _/_, _%_, _^_, _≤_, _<_}
+use mathlib.Core.List.{List, _∷_, _++_, append-assoc}
+use Prim.Native.Nat.{ℕ, zero, suc, _+_, _-_, _/_, _%_, _^_, _≤_, _<_}
 use native.Mathlib.Nat.{not-suc-le-zero, zero-add}
 use native.Mathlib.Numerals.{add-one, add-two, sub-one}
 use native.Mathlib.Omega.{arith}
@@ -24,7 +24,7 @@ use Rattle.burst.specs.Frames.{bitsOf, pairsOf, frameOf, frameLength, bu
 use Rattle.burst.specs.Writer.{answerOf, burstAnswer, written, bufferAfter}
 use Rattle.burst.specs.declared.BurstAnswer.{BurstAnswer}
 use Rattle.burst.specs.declared.BurstAnswer.the-variants.{Written, RefusedMessage, RefusedShort}
-use Rattle.burst.proofs.FrameLaws.{bits-length, pairs-length, frame-length, burst-length}
+use Rattle.burst.proofs.FrameLaws.{frame-length, burst-length}
 
 -- the next bit and its complement are put, and the rest is still to come
 pub pair-put : (out : List ℕ) (next left word : ℕ) → 0 < left

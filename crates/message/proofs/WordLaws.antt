@@ -4,16 +4,16 @@
 --     head-of-extended, standard-of-head  the first nine bits of an extended message, and what they say
 --     standard-of-address, standard-of-function, extended-of-word     the word of a valid message read back, kind by kind
 --     word-read-back, words-one-to-one    the same for every message; valid messages with the same bits are equal
-use mathlib.Core.Path.{_≡_, refl, sym, ap, ap₂, subst, _∙_}
-use mathlib.Core.Bool.{Bool, true, false, _&&_, and-eq-true-iff}
-use Prim.Native.Nat.{ℕ, _+_, _*_, _/_, _%_, _^_, _≤_, _<_}
+use mathlib.Core.Path.{_≡_, sym, ap, ap₂, _∙_}
+use mathlib.Core.Bool.{true, _&&_, and-eq-true-iff}
+use Prim.Native.Nat.{ℕ, _/_, _%_, _^_, _≤_, _<_}
 use native.Mathlib.Omega.{arith}
 use borrow.Author.Tests.{leb-true}
 use lib.Dec.{eqb, leb}
 use Rattle.message.specs.Choice.{pick}
-use Rattle.message.specs.Codes.{codeOf, numberOf, functionCode, meanings, meaningOf}
+use Rattle.message.specs.Codes.{codeOf, functionCode, meanings, meaningOf}
 use Rattle.message.specs.Messages.{messageOk, BytesOk}
-use Rattle.message.specs.Words.{nine, wordOf, bitCount, functionReading, standardOf, extendedOf}
+use Rattle.message.specs.Words.{nine, wordOf, bitCount, standardOf, extendedOf}
 use Rattle.message.specs.declared.Function.{Function}
 use Rattle.message.specs.declared.Message.{Message}
 use Rattle.message.specs.declared.Message.the-variants.{Address, Function as Command, Extended}

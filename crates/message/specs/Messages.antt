@@ -1,5 +1,5 @@
 -- Messages (01, 'Code numbers'): which of them a routine takes.
-use Prim.Native.Nat.{ℕ, _<_}
+use Prim.Native.Nat.{_<_}
 use mathlib.Core.Bool.{Bool, _&&_}
 use lib.Dec.{leb}
 use Rattle.message.specs.declared.Message.{Message}

@@ -1,7 +1,7 @@
 -- The receiver (01, 'The receiver', 'Numbers given back'): what each half-cycle says, and where the receiver then stands.
 use Prim.Native.Nat.{ℕ, _+_, _-_, _*_, _/_, _%_, _^_}
-use mathlib.Core.Bool.{Bool, true, false, _&&_, _||_, not}
-use lib.Dec.{eqb, leb, ltb}
+use mathlib.Core.Bool.{Bool, true, false, _&&_, _||_}
+use lib.Dec.{eqb, leb}
 use Rattle.message.specs.Choice.{pick}
 use Rattle.message.specs.Numbers.{NONE, HALF, STATE, PAIR, UNSUPPORTED}
 use Rattle.message.specs.Messages.{messageOk}

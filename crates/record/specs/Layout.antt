@@ -1,7 +1,7 @@
 -- Where the bytes of a table lie, and a record with some of its fields changed. No rule of 01 but the sizes and the order of the
 -- bytes stands here: "2,064 lent bytes: 256 records of 8 in order A1..P16, then one "command heard" byte per house."
 use Prim.Native.Nat.{ℕ, _+_, _*_, _/_, _%_, _^_}
-use mathlib.Core.Bool.{Bool, true, false, not}
+use mathlib.Core.Bool.{Bool, not}
 use mathlib.Core.List.{List, [], _∷_}
 use lib.Dec.{eqb}
 use lib.ListN.{getD}

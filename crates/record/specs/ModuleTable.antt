@@ -1,7 +1,7 @@
 -- The module table (01, 'The module table'; XTC798, type 3), in 01's order: the rules of a valid table, what each message asks of
 -- the records of its house, what that does to one record, and what it does to the table. Where the bytes lie is in Layout.
 use Prim.Native.Nat.{ℕ, zero, suc, _+_, _-_, _*_, _/_, _%_, min, max}
-use mathlib.Core.Bool.{Bool, true, false, not, _&&_, _||_}
+use mathlib.Core.Bool.{Bool, true, not, _&&_, _||_}
 use mathlib.Core.List.{List}
 use lib.Dec.{eqb, leb}
 use lib.ListN.{length, set}

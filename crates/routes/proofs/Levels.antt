@@ -10,19 +10,17 @@ use native.Mathlib.Omega.{arith}
 use lib.Dec.{eqb}
 use Rattle.message.specs.Choice.{pick}
 use Rattle.message.specs.Numbers.{NONE}
-use Rattle.message.specs.declared.Message.{Message}
 use Rattle.message.specs.declared.Message.the-variants.{Address as Calls}
-use Rattle.record.specs.Layout.{RECORDS, UNITS, houseOf, heardAt, recordAt, present}
-use Rattle.record.specs.ModuleTable.{heardAfter, acted, stepRecord, changed}
+use Rattle.record.specs.Layout.{RECORDS, UNITS, heardAt, recordAt, present}
+use Rattle.record.specs.ModuleTable.{acted, stepRecord, changed}
 use Rattle.record.specs.declared.Record.{Record}
-use Rattle.record.specs.declared.Act.{Act}
 use Rattle.record.specs.declared.Act.the-variants.{Address}
 use Rattle.record.specs.declared.Plan.{Plan}
 use Rattle.record.specs.declared.Plan.the-variants.{Run, NotCarried}
 use Rattle.record.proofs.RecordLaws.{pick-both}
-use Rattle.apply.specs.Applied.{planIn, numberFor, tableAfter}
+use Rattle.apply.specs.Applied.{tableAfter}
 use Rattle.table_laws.proofs.HouseLaws.{run-record}
-use Rattle.table_laws.proofs.Outcomes.{Ran, Outcome, stays, ran, outcome}
+use Rattle.table_laws.proofs.Outcomes.{Outcome, stays, ran, outcome}
 use Rattle.table_laws.proofs.Theorems.{refused-stays}
 
 -- the act of a plan leaves each level

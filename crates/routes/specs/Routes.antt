@@ -1,7 +1,6 @@
 -- Two routes into a module table: by radio, a code through the reader; on the mains, half-cycles through the receiver. Each applies
 -- the messages that it carries, in their order.
 use Prim.Native.Nat.{ℕ}
-use mathlib.Core.Bool.{Bool, true, false}
 use mathlib.Core.List.{List, [], _∷_, flatMap}
 use lib.Dec.{eqb}
 use lib.ListN.{length}

@@ -1,4 +1,5 @@
 // A sending station: holds at most one message, waits for a clear line, and sends the message's burst half-cycle by half-cycle.
+use burst::frame_length;
 use message::Message;
 use message::word::bit_count;
 use message::word::word_of;
@@ -99,19 +100,8 @@ pub fn draw_ok(draw: u8) -> bool
 fn burst_length(m: Message) -> u8
     ensures { λ r. ⌜ r ≡ burstLength m ⌝ }
 {
-    match m {
-        Message::Address { house: _, unit: _ } => 44,
-        Message::Function {
-            house: _,
-            function: _,
-        } => 44,
-        Message::Extended {
-            house: _,
-            unit: _,
-            data: _,
-            command: _,
-        } => 124,
-    }
+    let frame = frame_length(m);
+    (frame + frame) as u8
 }
 
 // The half-cycle at a place of the frame that carries these bits: the start 1 1 1 0, then each bit and its complement.

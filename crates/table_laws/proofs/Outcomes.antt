@@ -1,15 +1,13 @@
 -- Applying a message has two outcomes: it is refused and the bytes stay, or an act is run.
 --
 --     Outcome, outcome      the two, and that there is no third
-use mathlib.Core.Path.{_≡_, refl, sym, ap, subst, _∙_}
+use mathlib.Core.Path.{_≡_, refl}
 use mathlib.Core.Bool.{Bool, true, false}
 use mathlib.Core.List.{List}
-use Prim.Native.Nat.{ℕ, zero, suc, _+_, _*_, _/_, _%_, _≤_, _<_}
-use native.Mathlib.Omega.{arith}
+use Prim.Native.Nat.{ℕ}
 use borrow.Author.Tests.{eqb-true}
 use lib.Dec.{eqb}
-use lib.ListN.{length, getD}
-use Rattle.message.specs.Choice.{pick}
+use lib.ListN.{length}
 use Rattle.message.specs.Messages.{messageOk}
 use Rattle.message.specs.Numbers.{NONE, TABLE, MESSAGE, RECORD, NOT-CARRIED}
 use Rattle.message.specs.declared.Message.{Message}

@@ -23,7 +23,7 @@ use Rattle.record.proofs.RecordLaws.{pick-both, record-stays-valid}
 use Rattle.table.proofs.TableLaws.{record-set-past, changed-ext, changed-none}
 use Rattle.apply.specs.Applied.{planIn, numberFor, tableAfter, rightAnswer}
 use Rattle.apply.proofs.ApplyLaws.{refused, house-below}
-use Rattle.table_laws.specs.Statements.{ownByte, concerns, planConcerns, planned, ValidStays, OwnHouseOnly, OthersStay, RecordByRecord, RefusedStays, CountAtMost16, ExtendedKeeps}
+use Rattle.table_laws.specs.Statements.{ownByte, planConcerns, planned, ValidStays, OwnHouseOnly, OthersStay, RecordByRecord, RefusedStays, CountAtMost16, ExtendedKeeps}
 use Rattle.table_laws.proofs.HouseLaws.{step-changed, run-length, run-record, run-byte, run-heard, byte-of-record, below-at, below-all, step-unreached}
 use Rattle.table_laws.proofs.Outcomes.{Ran, Outcome, stays, ran, outcome}
 

@@ -6,18 +6,16 @@
 --     trim-none, trim-end, trim-more     a text as far as its first 0
 --     trimmed-name                  the name that stands at a code, taken from its table
 --     fields-at-most                no line has more than 38 bytes after its number and before its end
-use mathlib.Core.Path.{_≡_, refl, sym, ap, subst, _∙_}
-use mathlib.Core.Bool.{Bool, true, false, _&&_, not, and-eq-true-iff}
+use mathlib.Core.Path.{_≡_, refl, sym, ap, _∙_}
+use mathlib.Core.Bool.{Bool, true, false, not, and-eq-true-iff}
 use mathlib.Core.List.{List, [], _∷_, _++_}
 use Prim.Native.Nat.{ℕ, zero, suc, _+_, _-_, _/_, _%_, _≤_, _<_}
 use native.Mathlib.Numerals.{add-one}
 use native.Mathlib.Omega.{arith}
 use native.Mathlib.Decide.{decLt}
 use borrow.Author.Tests.{lt-ltb, le-ltb, leb-true, ne-eqb, not-true}
-use lib.Dec.{eqb, leb, ltb}
-use lib.ListN.{length, getD, drop, replicate, length-append}
-use lib.Seq.{drop-cons}
-use Rattle.message.specs.Choice.{pick}
+use lib.Dec.{eqb, leb}
+use lib.ListN.{length, replicate, length-append}
 use Rattle.message.specs.Text.{bytesOf, bytesFrom}
 use Rattle.message.specs.Codes.{functionNames, functionCode, nameAt, padded, paddedName}
 use Rattle.message.specs.declared.Message.{Message}

@@ -1,6 +1,6 @@
 -- `put_again` meets its contract: after i turns the first i entries stand once more from n on. A turn reads an entry of the front,
 -- which no turn has changed.
-use mathlib.Core.Path.{_≡_, ap, ap₂, _∙_, sym}
+use mathlib.Core.Path.{_≡_, ap, _∙_}
 use mathlib.Core.List.{List}
 use Prim.Native.Nat.{ℕ, _+_, _-_, _≤_}
 use native.Mathlib.Omega.{arith}

@@ -1,6 +1,6 @@
 -- `write_burst` meets its contract: each return is one law of `Writing`.
-use mathlib.Core.Path.{_∙_, ap, sym, subst}
-use Prim.Native.Nat.{ℕ, _+_, _≤_}
+use mathlib.Core.Path.{_∙_, ap, sym}
+use Prim.Native.Nat.{ℕ, _+_}
 use native.Mathlib.Omega.{arith}
 use borrow.Author.Tests.{not-true, not-false}
 use Rattle.burst.proofs.Writing.{frame-at-most, refused-message, refused-short, burst-written}

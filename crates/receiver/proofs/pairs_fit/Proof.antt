@@ -1,5 +1,4 @@
 -- `pairs_fit` meets its contract: its two tests are those of `pairsOk`, and the shift is the quotient by a power of two.
-use mathlib.Core.Path.{refl}
 use borrow.Author.Tests.{le-leb, lt-leb}
 use Rattle.receiver.specs.Receivers.{pairsOk}
 use borrow.Author.Needs.{needs}

@@ -1,5 +1,4 @@
 -- `store` meets its contract: the eight stores are the definition's run of stores.
-use mathlib.Core.Path.{refl}
 use native.Mathlib.Omega.{arith}
 use native.Mathlib.Numerals.{towards-suc}
 use lib.ListN.{length-set}

@@ -1,5 +1,4 @@
 -- `valid` meets its contract: the length is tested, then the records, then the house bytes.
-use mathlib.Core.Path.{sym}
 use borrow.Author.Tests.{eq-eqb, ne-eqb}
 use Rattle.record.specs.ModuleTable.{tableOk}
 use borrow.Author.Needs.{needs}

@@ -1,10 +1,7 @@
 -- `print_half` meets its contract: the event and the receiver are those of `stepOf`, and whether the number is the greatest picks the
 -- case of `halfAfter`.
-use mathlib.Core.Path.{ap, _∙_}
-use Prim.Native.Nat.{ℕ}
-use Rattle.receiver.specs.declared.Heard.{Heard}
 use borrow.Author.Tests.{le-leb, eq-eqb, ne-eqb}
-use Rattle.trace_lines.specs.Lines.{lineOf, roomFor}
+use Rattle.trace_lines.specs.Lines.{roomFor}
 use Rattle.trace_lines.specs.Trace.{halfAfter}
 use Rattle.trace_lines.proofs.PutLaws.{put-as}
 use borrow.Author.Needs.{needs}

@@ -1,5 +1,5 @@
 -- `put_extended` meets its contract: the kind, the letter, the unit and the two bytes, one after the other.
-use Prim.Native.Nat.{ℕ, _+_}
+use Prim.Native.Nat.{_+_}
 use native.Mathlib.Omega.{arith}
 use Rattle.message.specs.Text.{bytesOf, bytesFrom}
 use Rattle.trace_lines.specs.Lines.{trimmed, messageFields}

@@ -1,12 +1,12 @@
 -- `put_number` meets its contract: the digits still to be put are the last ones of what is left of the number, and putting them makes
 -- what all digits make of the buffer.
-use mathlib.Core.Path.{_≡_, refl, sym, ap, subst, _∙_}
-use mathlib.Core.List.{List, [], _∷_, _++_}
-use Prim.Native.Nat.{ℕ, suc, _+_, _-_, _/_, _%_, _≤_, _<_}
+use mathlib.Core.Path.{_≡_, refl, sym, ap, _∙_}
+use mathlib.Core.List.{List, [], _∷_}
+use Prim.Native.Nat.{ℕ, suc, _+_, _-_, _/_, _%_, _≤_}
 use native.Mathlib.Omega.{arith}
 use lib.ListN.{length, set}
 use lib.Seq.{sets}
-use Rattle.trace_lines.specs.Lines.{digitsUpTo, Put}
+use Rattle.trace_lines.specs.Lines.{digitsUpTo}
 use Rattle.trace_lines.proofs.PutLaws.{sets-append, sets-set}
 use Rattle.trace_lines.proofs.LineLaws.{lastDigits, length-last, digits-are-last, digits-at-most}
 use Rattle.trace_lines.proofs.put_number.Statement.{statement}

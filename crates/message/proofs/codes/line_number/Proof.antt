@@ -1,7 +1,6 @@
 -- `codes::line_number` meets its contract: at each of the sixteen codes the constant table has the place of the code in the line
 -- codes, which one computed test shows, and no code is above 15.
-use mathlib.Core.Path.{_≡_, refl, sym}
-use mathlib.Core.Bool.{Bool}
+use mathlib.Core.Path.{refl, sym}
 use mathlib.Core.List.{List, [], _∷_}
 use Prim.Native.Nat.{ℕ}
 use borrow.Author.Needs.{needs}

@@ -1,5 +1,5 @@
 -- `commands::status_plan` meets its contract: the test is the definition's.
-use mathlib.Core.Path.{sym, _∙_}
+use mathlib.Core.Path.{sym}
 use borrow.Author.Needs.{needs}
 use Rattle.record.proofs.commands.status_plan.Statement.{statement}
 use Rattle.record.proofs.commands.status_plan.Tie as tie
