@@ -266,7 +266,7 @@ fn put_line(out: &mut [u8; SIZE], at: usize, number: u64, line: Line) -> usize
 
 // Puts an event's line, if it has one, into the buffer at a place where a line may begin, and answers the place after it. At any
 // other place nothing is put.
-pub fn put_event(out: &mut [u8; SIZE], at: usize, number: u64, event: Event) -> usize
+pub(crate) fn put_event(out: &mut [u8; SIZE], at: usize, number: u64, event: Event) -> usize
     ensures { λ r. ⌜ Put (now (out .entry)) at (roomFor at (lineOf number event)) (now (out .exit)) r ⌝ }
 {
     if at > LAST {
