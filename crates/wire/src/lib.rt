@@ -58,7 +58,7 @@ pub fn message_from(kind: u8, house: u8, third: u8, data: u8, command: u8) -> Me
 }
 
 // The five numbers of a message, 0 for data and command where it has none.
-pub fn five_of(m: Message) -> Five
+fn five_of(m: Message) -> Five
     ensures { λ r. ⌜ listed r ≡ messageBytes m ⌝ }
 {
     match m {

@@ -145,7 +145,7 @@ fn plain(code: u8) -> Six
 }
 
 // The six bytes of an event.
-pub fn six_of(e: Event) -> Six
+fn six_of(e: Event) -> Six
     ensures { λ r. ⌜ sixListed r ≡ eventBytes e ⌝ }
 {
     match e {
