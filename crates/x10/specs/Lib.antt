@@ -3,3 +3,4 @@ pub mod Bursts
 pub mod Radio
 pub mod Receivers
 pub mod Tables
+pub mod Benches

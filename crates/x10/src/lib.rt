@@ -2,6 +2,7 @@
 // count times 256 plus the number given back. Every number and every slice is taken; a refusal changes nothing that was lent.
 use apply::ApplyAnswer;
 use apply::apply;
+use bench_run::BenchRunAnswer;
 use burst::BurstAnswer;
 use burst::write_burst;
 use radio::RadioBytes;
@@ -35,6 +36,7 @@ ghost use lib.ListN.{length};
 ghost use lib.Seq.{sets};
 ghost use Rattle.burst.specs.Writer.{answerOf};
 ghost use Rattle.apply.specs.Applied.{answerOf as applyMeans};
+ghost use Rattle.bench_run.specs.BenchRuns.{benchMeans, lent, linesAfter, marksAfter};
 ghost use Rattle.routes.specs.Routes.{radioMeans, radioTable, mainsMeans};
 ghost use Rattle.receiver.specs.Receivers.{freshReceiver};
 ghost use Rattle.wire.specs.Messages.{messageFrom};
@@ -44,6 +46,7 @@ ghost use Rattle.x10.specs.Packed.{packed};
 ghost use Rattle.x10.specs.Bursts.{burstGiven, burstLeft};
 ghost use Rattle.x10.specs.Radio.{writeGiven, writeLeft, readGiven, readLeft};
 ghost use Rattle.x10.specs.Receivers.{freshGiven, receiveGiven, receiverLeft, eventsLeft};
+ghost use Rattle.x10.specs.Benches.{benchGiven};
 ghost use Rattle.x10.specs.Tables.{applyGiven, applyLeft, radioGiven, stepRefusal, mainsGiven, mainsTableLeft, mainsStateLeft, mainsEventLeft};
 
 // A number given back and a count, as one number.
@@ -309,4 +312,33 @@ pub extern "C" fn x10_mains_route(
             pack(6, 0)
         }
     }
+}
+
+fn pack_bench(a: BenchRunAnswer) -> u64
+    ensures { λ r. ⌜ r ≡ packed (benchMeans a .number) (benchMeans a .count) ⌝ }
+{
+    match a {
+        BenchRunAnswer::Ran(n) => pack(0, n),
+        BenchRunAnswer::RefusedMessage => pack(2, 0),
+        BenchRunAnswer::RefusedState => pack(6, 0),
+        BenchRunAnswer::RefusedDraw => pack(7, 0),
+        BenchRunAnswer::RefusedShort => pack(9, 0),
+    }
+}
+
+// Loads a station for each draw of loads, and calls the bench once for each byte of lines; the count is of the calls that were not
+// refused. Refused 2, 6, 7, 9.
+#[no_mangle]
+pub extern "C" fn x10_bench_run(
+    messages: &[u8],
+    loads: &[u8],
+    draws: &[u8],
+    lines: &mut [u8],
+    marks: &mut [u8],
+) -> u64
+    ensures answer { λ r. ⌜ r ≡ benchGiven (lent (now (messages .entry)) (now (loads .entry)) (now (draws .entry)) (now (lines .entry)) (now (marks .entry))) ⌝ }
+    ensures lines { λ _. ⌜ now (lines .exit) ≡ linesAfter (lent (now (messages .entry)) (now (loads .entry)) (now (draws .entry)) (now (lines .entry)) (now (marks .entry))) ⌝ }
+    ensures marks { λ _. ⌜ now (marks .exit) ≡ marksAfter (lent (now (messages .entry)) (now (loads .entry)) (now (draws .entry)) (now (lines .entry)) (now (marks .entry))) ⌝ }
+{
+    pack_bench(bench_run::run(messages, loads, draws, lines, marks))
 }
