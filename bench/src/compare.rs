@@ -1,89 +1,19 @@
 //! Compares every exported routine with the model: answers, and lent memory byte for byte.
+//!
+//! Each routine has a list of situations that its cases must reach; `reached.rs` says which case is
+//! in which.
 
 use crate::inputs::{self, TABLE};
 use crate::lent::Lent;
+use crate::reached;
 use crate::rng::Rng;
+use crate::tally::Tally;
 use crate::x10;
 use x10_model::bytes::{self, EVENT, MESSAGE, RECEIVER};
 use x10_model::message::Refusal;
 
-/// Differences of one routine that are printed; the rest are counted.
-const PRINTED: u64 = 5;
-
-/// What was met of one routine.
-pub struct Tally {
-    pub routine: &'static str,
-    /// The numbers that the routine can answer by, 0 among them.
-    pub numbers: &'static [u8],
-    /// Codes of the events, or of a line's bytes, that it can write; empty where it writes none.
-    pub codes: &'static [u8],
-    pub cases: u64,
-    pub differences: u64,
-    answered: [u64; 256],
-    written: [u64; 256],
-}
-
-impl Tally {
-    fn new(routine: &'static str, numbers: &'static [u8], codes: &'static [u8]) -> Tally {
-        let none = [0; 256];
-        Tally { routine, numbers, codes, cases: 0, differences: 0, answered: none, written: none }
-    }
-
-    /// Counts a case and says where the two sides differ, or a refusal changed something.
-    fn case(
-        &mut self,
-        rattle: x10::Answer,
-        rust: Result<usize, Refusal>,
-        lent: &mut [&mut Lent],
-        told: impl FnOnce() -> String,
-    ) {
-        let rust = match rust {
-            Ok(count) => x10::Answer { number: 0, count: count as u64 },
-            Err(refusal) => x10::Answer { number: refusal as u8, count: 0 },
-        };
-        self.cases += 1;
-        self.answered[usize::from(rust.number)] += 1;
-        // A refusal changes nothing; 4 of the mains route moves the receiver on, and is none.
-        let refused = rust.number != 0 && !(self.routine == "mains_route" && rust.number == 4);
-        let kept = !refused || lent.iter().all(|lent| lent.unchanged());
-        if rattle == rust && kept && lent.iter().all(|lent| lent.same()) {
-            return;
-        }
-        self.differences += 1;
-        let mut line = format!("DIFFERENCE {} case {}: {}", self.routine, self.cases, told());
-        line += &format!("\n    Rattle {rattle:?}\n    Rust   {rust:?}");
-        for lent in lent {
-            line += &lent.tell(refused);
-        }
-        if self.differences <= PRINTED {
-            println!("{line}");
-        }
-    }
-
-    /// Numbers and codes that were not met though the routine can give them.
-    pub fn missed(&self) -> Vec<String> {
-        let missed = |met: &[u64; 256], all: &[u8], what: &str| -> Vec<String> {
-            let missed = all.iter().filter(|&&number| met[usize::from(number)] == 0);
-            missed.map(|number| format!("{} {what} {number}", self.routine)).collect()
-        };
-        let mut all = missed(&self.answered, self.numbers, "answer");
-        all.extend(missed(&self.written, self.codes, "code"));
-        all
-    }
-
-    /// How often each number and each code was met.
-    pub fn told(&self) -> String {
-        let counts = |met: &[u64; 256]| -> String {
-            let met = met.iter().enumerate().filter(|(_, &times)| times > 0);
-            met.map(|(number, times)| format!(" {number}:{times}")).collect()
-        };
-        let mut told = format!("{:16}{:>10}  answers{}", self.routine, self.cases, counts(&self.answered));
-        if !self.codes.is_empty() {
-            told += &format!("\n{:28}codes{}", "", counts(&self.written));
-        }
-        told
-    }
-}
+/// Where the house bytes of a table stand.
+const HEARD: usize = TABLE - 16;
 
 /// All routines. `size` 1 is the usual run; the seed of each routine is made of the one given.
 pub fn all(seed: u64, size: usize) -> Vec<Tally> {
@@ -96,7 +26,7 @@ pub fn all(seed: u64, size: usize) -> Vec<Tally> {
 
 fn burst(rng: &mut Rng, size: usize) -> Tally {
     const MOST: usize = 160;
-    let mut tally = Tally::new("burst", &[0, 2, 9], &[]);
+    let mut tally = Tally::new("burst", &[0, 2, 9], &[], &[&reached::KINDS, &reached::LENGTHS]);
     let mut buf = Lent::new("buf", MOST, rng);
     let mut case = |numbers: [u8; MESSAGE], rng: &mut Rng| {
         let asked = if numbers[0] == 3 { 124 } else { 44 };
@@ -104,6 +34,10 @@ fn burst(rng: &mut Rng, size: usize) -> Tally {
         buf.lend_random(len, rng);
         let rattle = x10::burst(numbers, buf.rattle());
         let rust = bytes::burst(numbers, buf.rust());
+        if rust != Err(Refusal::Message) {
+            tally.reach(reached::kind(numbers[0]));
+            tally.reach(reached::length(len, asked));
+        }
         tally.case(rattle, rust, &mut [&mut buf], || format!("message {numbers:?}, length {len}"));
     };
     for kind in [0, 1, 2, 3, 4, 255] {
@@ -121,13 +55,14 @@ fn burst(rng: &mut Rng, size: usize) -> Tally {
 }
 
 fn receiver_fresh(rng: &mut Rng, size: usize) -> Tally {
-    let mut tally = Tally::new("receiver_fresh", &[0, 6], &[]);
+    let mut tally = Tally::new("receiver_fresh", &[0, 6], &[], &[&reached::LENGTHS]);
     let mut state = Lent::new("state", 64, rng);
     for _ in 0..100_000 * size {
         let len = inputs::length(rng, RECEIVER, 64);
         state.lend_random(len, rng);
         let rattle = x10::receiver_fresh(state.rattle());
         let rust = bytes::receiver_fresh(state.rust());
+        tally.reach(reached::length(len, RECEIVER));
         tally.case(rattle, rust, &mut [&mut state], String::new);
     }
     tally
@@ -135,7 +70,11 @@ fn receiver_fresh(rng: &mut Rng, size: usize) -> Tally {
 
 fn receive(rng: &mut Rng, size: usize) -> Tally {
     const MOST: usize = 4000;
-    let mut tally = Tally::new("receive", &[0, 6, 9], &[0, 1, 2, 5, 6, 10, 11]);
+    const LINES: [&str; 4] =
+        ["no half-cycle", "line from the hunt", "line after a message", "line from mid-frame"];
+    const CODES: [u8; 7] = [0, 1, 2, 5, 6, 10, 11];
+    let situations: [&[&str]; 3] = [&reached::TURNS, &LINES, &reached::LENGTHS];
+    let mut tally = Tally::new("receive", &[0, 6, 9], &CODES, &situations);
     let mut state = Lent::new("state", 2 * RECEIVER, rng);
     let mut halves = Lent::new("halves", MOST, rng);
     let mut events = Lent::new("events", room_for(MOST) + 64, rng);
@@ -150,8 +89,23 @@ fn receive(rng: &mut Rng, size: usize) -> Tally {
         let rust = bytes::receive(state.rust(), halves.rust(), events.rust());
         if rust.is_ok() {
             for event in events.rust()[..room_for(line.len())].chunks(EVENT) {
-                tally.written[usize::from(event[0])] += 1;
+                tally.wrote(event[0]);
             }
+            match (line, state.before()[1]) {
+                ([], _) => tally.reach("no half-cycle"),
+                ([0 | 1], _) => {
+                    let code = events.rust()[0];
+                    if let Some(turn) = reached::turn(state.before(), code, state.after()) {
+                        tally.reach(turn);
+                    }
+                }
+                (_, 0) => tally.reach("line from the hunt"),
+                (_, 1..=4) => tally.reach("line after a message"),
+                _ => tally.reach("line from mid-frame"),
+            }
+        }
+        if rust != Err(Refusal::State) {
+            tally.reach(reached::length(room, room_for(line.len())));
         }
         tally.case(rattle, rust, &mut [&mut state, &mut halves, &mut events], || format!("room {room}"));
     };
@@ -167,14 +121,14 @@ fn receive(rng: &mut Rng, size: usize) -> Tally {
             }
         }
     }
-    for _ in 0..900_000 * size {
+    for _ in 0..2_000_000 * size {
         let from = inputs::receiver(rng);
         case(Some(&from), &[rng.below(2) as u8], EVENT, rng);
     }
 
     // Lines of any length, from fresh receivers, from where the last line ended, from any bytes.
     let mut line = Vec::new();
-    for i in 0..200_000 * size {
+    for i in 0..400_000 * size {
         let most = if i % 100 == 0 { MOST } else { 300 };
         let len = rng.below(most + 1);
         let bad = rng.one_in(4);
@@ -213,26 +167,37 @@ fn fresh() -> [u8; RECEIVER] {
     state
 }
 
-fn radio_write(rng: &mut Rng, _size: usize) -> Tally {
-    let mut tally = Tally::new("radio_write", &[0, 2, 9], &[]);
+fn radio_write(rng: &mut Rng, size: usize) -> Tally {
+    let mut tally = Tally::new("radio_write", &[0, 2, 9], &[], &[&reached::COMMANDS, &reached::LENGTHS]);
     let mut out = Lent::new("out", 16, rng);
+    let mut case = |command: u8, house: u8, unit: u8, rng: &mut Rng| {
+        let len = inputs::length(rng, 4, 16);
+        out.lend_random(len, rng);
+        let rattle = x10::radio_write(command, house, unit, out.rattle());
+        let rust = bytes::radio_write(command, house, unit, out.rust());
+        if rust != Err(Refusal::Message) {
+            tally.reach(reached::command(command));
+            tally.reach(reached::length(len, 4));
+        }
+        tally.case(rattle, rust, &mut [&mut out], || format!("{command} {house} {unit}, length {len}"));
+    };
     // Every command, house and unit there is.
     for command in 0..=255 {
         for house in 0..=255 {
             for unit in 0..=255 {
-                let len = inputs::length(rng, 4, 16);
-                out.lend_random(len, rng);
-                let rattle = x10::radio_write(command, house, unit, out.rattle());
-                let rust = bytes::radio_write(command, house, unit, out.rust());
-                tally.case(rattle, rust, &mut [&mut out], || format!("{command} {house} {unit}"));
+                case(command, house, unit, rng);
             }
         }
+    }
+    for _ in 0..1_000_000 * size {
+        case(rng.below(5) as u8, rng.below(17) as u8, rng.below(17) as u8, rng);
     }
     tally
 }
 
 fn radio_read(rng: &mut Rng, size: usize) -> Tally {
-    let mut tally = Tally::new("radio_read", &[0, 9, 12, 13, 14], &[]);
+    let situations: [&[&str]; 2] = [&reached::COMMANDS, &reached::LENGTHS];
+    let mut tally = Tally::new("radio_read", &[0, 9, 12, 13, 14], &[], &situations);
     let mut code = Lent::new("code", 16, rng);
     let mut out = Lent::new("out", 16, rng);
     let mut case = |bytes: &[u8], len: usize, rng: &mut Rng| {
@@ -240,6 +205,12 @@ fn radio_read(rng: &mut Rng, size: usize) -> Tally {
         out.lend_random(len, rng);
         let rattle = x10::radio_read(code.rattle(), out.rattle());
         let rust = bytes::radio_read(code.rust(), out.rust());
+        if rust.is_ok() {
+            tally.reach(reached::command(out.rust()[0]));
+        }
+        if rust != Err(Refusal::Short) {
+            tally.reach(reached::length(bytes.len(), 4));
+        }
         tally.case(rattle, rust, &mut [&mut code, &mut out], String::new);
     };
     for _ in 0..4 * size {
@@ -265,7 +236,8 @@ fn radio_read(rng: &mut Rng, size: usize) -> Tally {
 }
 
 fn apply(rng: &mut Rng, size: usize) -> Tally {
-    let mut tally = Tally::new("apply", &[0, 1, 2, 3, 4], &[]);
+    let situations: [&[&str]; 4] = [&reached::FORMS, &reached::NAMED, &reached::COUNTS, &reached::LENGTHS];
+    let mut tally = Tally::new("apply", &[0, 1, 2, 3, 4], &[], &situations);
     let mut table = Lent::new("table", TABLE + 8, rng);
     let mut valid = vec![0; TABLE];
     let mut case = |from: Option<&[u8]>, numbers: [u8; MESSAGE]| {
@@ -275,10 +247,18 @@ fn apply(rng: &mut Rng, size: usize) -> Tally {
         }
         let rattle = x10::apply(table.rattle(), numbers);
         let rust = bytes::apply(table.rust(), numbers);
+        tally.reach(reached::length(table.before().len(), TABLE));
+        if let Ok(levels) = rust {
+            let changed = table.before()[..HEARD] != table.after()[..HEARD];
+            let situations =
+                [reached::form(numbers, levels, changed), reached::named(numbers, table.before())];
+            situations.into_iter().flatten().for_each(|situation| tally.reach(situation));
+            tally.reach(reached::count(levels));
+        }
         tally.case(rattle, rust, &mut [&mut table], || format!("message {numbers:?}"));
     };
-    for i in 0..3500 * size {
-        inputs::table(rng, i % 4, &mut valid);
+    for i in 0..8000 * size {
+        inputs::table(rng, i % 4, true, &mut valid);
         case(Some(&valid), inputs::numbers(rng));
         // Messages one after the other, mostly for one house.
         let house = rng.below(16) as u8;
@@ -324,14 +304,15 @@ fn apply(rng: &mut Rng, size: usize) -> Tally {
 
 fn bench_run(rng: &mut Rng, size: usize) -> Tally {
     const CALLS: usize = 134 * 16;
-    let mut tally = Tally::new("bench_run", &[0, 2, 6, 7, 9], &[0, 1, 7]);
+    let situations: [&[&str]; 2] = [&reached::STATIONS, &reached::RUNS];
+    let mut tally = Tally::new("bench_run", &[0, 2, 6, 7, 9], &[0, 1, 7], &situations);
     let mut bench = inputs::Bench { messages: vec![], loads: vec![], draws: vec![] };
     let mut messages = Lent::new("messages", 128, rng);
     let mut loads = Lent::new("loads", 32, rng);
     let mut draws = Lent::new("draws", 20 * CALLS + 32, rng);
     let mut lines = Lent::new("lines", CALLS + 8, rng);
     let mut marks = Lent::new("marks", 2 * CALLS + 16, rng);
-    for i in 0..400_000 * size {
+    for i in 0..1_000_000 * size {
         let n = if rng.one_in(16) { rng.below(20) } else { 1 + rng.below(16) };
         // Short ones mostly, and now and then as long as the slowest bench takes.
         let calls = if i % 200 == 0 { 134 * n.min(16) } else { rng.below(if i % 4 == 0 { 160 } else { 70 }) };
@@ -346,10 +327,10 @@ fn bench_run(rng: &mut Rng, size: usize) -> Tally {
         let rattle =
             x10::bench_run(messages.rattle(), loads.rattle(), draws.rattle(), lines.rattle(), marks.rattle());
         let rust = bytes::bench_run(messages.rust(), loads.rust(), draws.rust(), lines.rust(), marks.rust());
-        if rust.is_ok() {
-            for line in lines.rust() {
-                tally.written[usize::from(*line)] += 1;
-            }
+        tally.reach(reached::stations(n));
+        if let Ok(count) = rust {
+            lines.rust().iter().for_each(|&line| tally.wrote(line));
+            ran(&mut tally, n, count, &marks.rust()[..2 * calls]);
         }
         let lent = &mut [&mut messages, &mut loads, &mut draws, &mut lines, &mut marks];
         tally.case(rattle, rust, lent, || format!("{n} stations, {calls} calls"));
@@ -357,8 +338,32 @@ fn bench_run(rng: &mut Rng, size: usize) -> Tally {
     tally
 }
 
+/// What came in a run of n stations, of whose calls so many were not refused.
+fn ran(tally: &mut Tally, n: usize, count: usize, marks: &[u8]) {
+    let mut done = 0;
+    for mark in marks.chunks(2) {
+        let now = u16::from_be_bytes([mark[0], mark[1]]);
+        match now.count_ones() {
+            0 => {}
+            1 => tally.reach("one DONE"),
+            _ => tally.reach("several DONE"),
+        }
+        done |= now;
+    }
+    if done.count_ones() as usize == n {
+        tally.reach("every station DONE");
+    }
+    if marks.is_empty() {
+        tally.reach("no call");
+    } else if count > 0 && 2 * count < marks.len() {
+        tally.reach("some calls refused");
+    }
+}
+
 fn radio_route(rng: &mut Rng, size: usize) -> Tally {
-    let mut tally = Tally::new("radio_route", &[0, 1, 3, 12, 13, 14], &[]);
+    const SITUATIONS: [&str; 4] = ["on moves a level", "off moves", "bright moves", "dim moves"];
+    let situations: [&[&str]; 2] = [&SITUATIONS, &reached::COUNTS];
+    let mut tally = Tally::new("radio_route", &[0, 1, 3, 12, 13, 14], &[], &situations);
     let mut table = Lent::new("table", TABLE + 8, rng);
     let mut code = Lent::new("code", 16, rng);
     let mut valid = vec![0; TABLE];
@@ -373,10 +378,18 @@ fn radio_route(rng: &mut Rng, size: usize) -> Tally {
         code.lend_bytes(&bytes[..len]);
         let rattle = x10::radio_route(table.rattle(), code.rattle());
         let rust = bytes::radio_route(table.rust(), code.rust());
+        if let Ok(levels) = rust {
+            let mut command = [0; 3];
+            bytes::radio_read(&bytes[..len], &mut command).expect("a code that was taken");
+            if levels > 0 {
+                tally.reach(SITUATIONS[usize::from(command[0])]);
+            }
+            tally.reach(reached::count(levels));
+        }
         tally.case(rattle, rust, &mut [&mut table, &mut code], String::new);
     };
-    for i in 0..3500 * size {
-        inputs::table(rng, i % 4, &mut valid);
+    for i in 0..8000 * size {
+        inputs::table(rng, i % 4, true, &mut valid);
         case(Some(&valid), rng);
         for _ in 0..250 {
             case(None, rng);
@@ -396,7 +409,9 @@ fn radio_route(rng: &mut Rng, size: usize) -> Tally {
 
 fn mains_route(rng: &mut Rng, size: usize) -> Tally {
     const NUMBERS: [u8; 7] = [0, 1, 3, 4, 5, 6, 9];
-    let mut tally = Tally::new("mains_route", &NUMBERS, &[0, 1, 2, 10, 11]);
+    const CODES: [u8; 5] = [0, 1, 2, 10, 11];
+    let situations: [&[&str]; 2] = [&reached::FORMS, &reached::COUNTS];
+    let mut tally = Tally::new("mains_route", &NUMBERS, &CODES, &situations);
     let mut state = Lent::new("state", 2 * RECEIVER, rng);
     let mut table = Lent::new("table", TABLE + 8, rng);
     let mut out = Lent::new("out", 16, rng);
@@ -415,12 +430,18 @@ fn mains_route(rng: &mut Rng, size: usize) -> Tally {
         let rattle = x10::mains_route(state.rattle(), half, table.rattle(), out.rattle());
         let rust = bytes::mains_route(state.rust(), half, table.rust(), out.rust());
         if let Ok(_) | Err(Refusal::NotCarried) = rust {
-            tally.written[usize::from(out.rust()[0])] += 1;
+            tally.wrote(out.rust()[0]);
+        }
+        if let (Ok(levels), [1, numbers @ ..]) = (rust, &out.rust()[..]) {
+            let changed = table.before()[..HEARD] != table.after()[..HEARD];
+            let numbers = numbers[..MESSAGE].try_into().expect("five bytes");
+            reached::form(numbers, levels, changed).into_iter().for_each(|form| tally.reach(form));
+            tally.reach(reached::count(levels));
         }
         tally.case(rattle, rust, &mut [&mut state, &mut table, &mut out], || format!("half {half}"));
     };
-    for i in 0..3500 * size {
-        inputs::table(rng, i % 4, &mut valid);
+    for i in 0..8000 * size {
+        inputs::table(rng, i % 4, true, &mut valid);
         case(Some(&fresh()), 0, Some(&valid), EVENT, rng);
         // A line from a fresh receiver.
         inputs::line(rng, 250, i % 2 == 0, &mut line);

@@ -24,11 +24,12 @@ pub fn edge(rng: &mut Rng) -> u8 {
 
 /// A length near one that a routine asks for.
 pub fn length(rng: &mut Rng, asked: usize, most: usize) -> usize {
-    match rng.below(6) {
+    match rng.below(8) {
         0 => rng.below(most + 1),
-        1 => asked.saturating_sub(1),
-        2 => (asked + 1).min(most),
-        3 => (asked + rng.below(8)).min(most),
+        1 => rng.below(2) * rng.below(asked + 1),
+        2 => asked.saturating_sub(1),
+        3 => (asked + 1).min(most),
+        4 => (asked + rng.below(8)).min(most),
         _ => asked,
     }
 }
@@ -174,20 +175,30 @@ pub fn receiver(rng: &mut Rng) -> [u8; RECEIVER] {
         _ => rng.below(63) as u8,
     };
     let mut state = receiver_at(rng, past, at);
-    // A repeat: the bits of the message given before, up to the frame's last pair.
-    if rng.one_in(4) {
-        let mut numbers = message(rng);
-        if numbers[0] != 3 {
-            numbers[3] = 0;
-            numbers[4] = 0;
-        }
+    // A message up to the second half-cycle of its last pair, with itself, another or none before it.
+    if rng.one_in(3) {
+        let numbers = written(rng);
         let word = word_of(numbers);
         state[0] = state[0] & 62 | (word.bits & 1) as u8;
         state[1] = frame_len(word) as u8;
         state[2..6].copy_from_slice(&(word.bits >> 1).to_be_bytes());
-        state[6..].copy_from_slice(&numbers);
+        state[6..].copy_from_slice(&match rng.below(3) {
+            0 => numbers,
+            1 => written(rng),
+            _ => [0; MESSAGE],
+        });
     }
     state
+}
+
+/// Five bytes of a message as the routines write them.
+fn written(rng: &mut Rng) -> [u8; MESSAGE] {
+    let mut numbers = message(rng);
+    if numbers[0] != 3 {
+        numbers[3] = 0;
+        numbers[4] = 0;
+    }
+    numbers
 }
 
 /// A record that keeps the rules, of the kind given.
@@ -214,12 +225,19 @@ fn record(rng: &mut Rng, kind: u8) -> [u8; RECORD] {
     record
 }
 
-/// A table that keeps the rules, with `absent` of 4 records of kind 0.
-pub fn table(rng: &mut Rng, absent: usize, bytes: &mut [u8]) {
+/// A table that keeps the rules, with `absent` of 4 records of kind 0. Where `alike`, one house in
+/// eight has one record sixteen times, so that a message may change every level of it.
+pub fn table(rng: &mut Rng, absent: usize, alike: bool, bytes: &mut [u8]) {
     let (records, heard) = bytes.split_at_mut(RECORDS * RECORD);
-    for bytes in records.chunks_exact_mut(RECORD) {
-        let kind = if rng.below(4) < absent { 0 } else { 1 + rng.below(2) as u8 };
-        bytes.copy_from_slice(&record(rng, kind));
+    for house in records.chunks_exact_mut(16 * RECORD) {
+        let one = (alike && rng.one_in(8)).then(|| {
+            let kind = 1 + rng.below(2) as u8;
+            record(rng, kind)
+        });
+        for bytes in house.chunks_exact_mut(RECORD) {
+            let kind = if rng.below(4) < absent { 0 } else { 1 + rng.below(2) as u8 };
+            bytes.copy_from_slice(&one.unwrap_or_else(|| record(rng, kind)));
+        }
     }
     for byte in heard {
         *byte = rng.below(2) as u8;

@@ -63,6 +63,16 @@ impl Lent {
         &mut self.rust[GUARD..GUARD + self.len]
     }
 
+    /// What was lent, as it was before the call.
+    pub fn before(&self) -> &[u8] {
+        &self.before[GUARD..GUARD + self.len]
+    }
+
+    /// The same bytes as the model left them.
+    pub fn after(&self) -> &[u8] {
+        &self.rust[GUARD..GUARD + self.len]
+    }
+
     /// Whether both sides left the same bytes, in what was lent and around it.
     pub fn same(&self) -> bool {
         self.rattle[..self.end()] == self.rust[..self.end()]

@@ -10,7 +10,9 @@ mod compare;
 mod inputs;
 mod lent;
 mod measure;
+mod reached;
 mod rng;
+mod tally;
 mod x10;
 
 use std::process::ExitCode;
@@ -47,7 +49,6 @@ fn options() -> Result<Options, String> {
 fn compare(seed: u64, size: usize) -> bool {
     let start = Instant::now();
     let tallies = compare::all(seed, size);
-    println!("routine              cases  how often each number was answered, each code written");
     for tally in &tallies {
         println!("{}", tally.told());
     }
@@ -60,7 +61,7 @@ fn compare(seed: u64, size: usize) -> bool {
 
     let missed: Vec<String> = tallies.iter().flat_map(|tally| tally.missed()).collect();
     if missed.is_empty() {
-        println!("met: every number that a routine can answer, and every event");
+        println!("met: every number that a routine can answer, every event and every situation");
         println!("     (8 and 15 are answers of single stations, which the library does not export)");
     } else {
         println!("NOT MET: {}", missed.join(", "));

@@ -234,7 +234,7 @@ fn radio(rng: &mut Rng, rows: &mut Vec<Row>) {
 /// A table with all 256 records present.
 fn full_table(rng: &mut Rng) -> Vec<u8> {
     let mut table = vec![0; TABLE];
-    inputs::table(rng, 0, &mut table);
+    inputs::table(rng, 0, false, &mut table);
     table
 }
 

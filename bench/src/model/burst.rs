@@ -34,15 +34,17 @@ pub fn write_frame(word: Word, frame: &mut [u8]) {
     }
 }
 
-/// Writes the burst of `message` at the front of `buf` and gives its length. Bytes beyond stay.
+/// Writes the burst of `message` at the front of `buf` and gives its length. Bytes beyond stay. The
+/// burst is kept whole in an array and copied, as the paper asks for.
 pub fn write_burst(message: Message, buf: &mut [u8]) -> Result<usize, Refusal> {
     message.judge()?;
     let word = message.word();
     let frame = frame_len(word);
-    let burst = buf.get_mut(..2 * frame).ok_or(Refusal::Short)?;
-    let (first, second) = burst.split_at_mut(frame);
-    write_frame(word, first);
-    second.copy_from_slice(first);
+    let front = buf.get_mut(..2 * frame).ok_or(Refusal::Short)?;
+    let mut burst = [0; LONGEST];
+    write_frame(word, &mut burst[..frame]);
+    burst.copy_within(..frame, frame);
+    front.copy_from_slice(&burst[..2 * frame]);
     Ok(2 * frame)
 }
 

@@ -118,11 +118,8 @@ pub fn receive(state: &mut [u8], halves: &[u8], events: &mut [u8]) -> Result<usi
     let mut receiver = receiver(state)?;
     let events = events.get_mut(..EVENT * halves.len()).ok_or(Refusal::Short)?;
     let (events, _) = events.as_chunks_mut::<EVENT>();
-    // A receiver that is judged well stays so, and one that is refused does not move.
-    let judged = receiver.judge();
     for (event, &half) in events.iter_mut().zip(halves) {
-        let step = if half > 1 { Err(Refusal::Half) } else { judged.map(|()| receiver.advance(half)) };
-        write_event(step, event);
+        write_event(receiver.step(half), event);
     }
     state.copy_from_slice(&receiver_bytes(&receiver));
     Ok(halves.len())

@@ -90,13 +90,7 @@ impl Receiver {
         let before = self.past;
         self.past = (before << 1 | half) & PAST_MASK;
         if self.at == 0 {
-            if before == BEFORE_START && half == 0 {
-                self.at = FIRST_PAIR;
-                self.bits = 0;
-                self.given = None;
-            } else {
-                self.hunt();
-            }
+            self.hunts(before, half);
             Event::Nothing
         } else if AWAITED.contains(&self.at) {
             let wanted = u8::from(self.at < 4);
@@ -104,7 +98,9 @@ impl Receiver {
                 self.at += 1;
                 self.bits = 0;
             } else {
-                self.hunt();
+                // This half-cycle goes to the hunt. No sequence of calls leads to a receiver that
+                // finds a start with it.
+                self.hunts(before, half);
             }
             Event::Nothing
         } else if self.at % 2 == 1 {
@@ -115,6 +111,15 @@ impl Receiver {
         }
     }
 
+    /// A half-cycle in the hunt: a frame begins where it completes the start.
+    fn hunts(&mut self, before: u8, half: u8) {
+        self.hunt();
+        if before == BEFORE_START && half == 0 {
+            self.at = FIRST_PAIR;
+        }
+    }
+
+    /// Hunting from the next half-cycle on.
     fn hunt(&mut self) {
         self.at = 0;
         self.bits = 0;
@@ -372,6 +377,19 @@ mod tests {
                 }
             }
             assert_eq!(heard(&line), heard_in_list(&line), "{line:?}");
+        }
+    }
+
+    #[test]
+    fn an_awaited_half_cycle_that_differs_goes_to_the_hunt() {
+        for at in 1..=3 {
+            let made_up = Receiver { past: BEFORE_START, at, bits: 5, given: Some(A1) };
+            let mut receiver = made_up;
+            assert_eq!(receiver.step(0), Ok(Event::Nothing));
+            assert_eq!(receiver, Receiver { past: 14, at: FIRST_PAIR, bits: 0, given: None });
+            let mut receiver = Receiver { past: 6, ..made_up };
+            assert_eq!(receiver.step(0), Ok(Event::Nothing));
+            assert_eq!(receiver, Receiver { past: 12, at: 0, bits: 0, given: None });
         }
     }
 
