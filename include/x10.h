@@ -22,7 +22,8 @@
 extern "C" {
 #endif
 
-/* Numbers of refusals, and of the two BROKEN events. */
+/* Numbers of refusals, and of the two BROKEN events. 8 and 15 are answers of single stations, which
+ * are not exported. */
 enum x10_number {
     X10_OK = 0,
     X10_TABLE = 1,         /* the table's length is not 2,064 */
@@ -30,7 +31,7 @@ enum x10_number {
     X10_RECORD = 3,        /* the table breaks a rule */
     X10_NOT_CARRIED = 4,   /* a message that tables do not carry */
     X10_HALF = 5,          /* a half-cycle that is not 0 or 1 */
-    X10_STATE = 6,         /* no receiver; a bench of 0 or of more than 16 stations */
+    X10_STATE = 6,         /* no receiver, or one in no state that there is; no bench of 1 to 16 stations */
     X10_DRAW = 7,          /* a draw that is not 8, 9 or 10 */
     X10_SHORT = 9,         /* a lent buffer has not the length that is asked for */
     X10_PAIR = 10,         /* an event: both half-cycles of a pair were equal */
@@ -91,7 +92,8 @@ enum x10_event { X10_NOTHING = 0, X10_GIVEN = 1, X10_REPEAT = 2 };
 /* Hands the receiver n half-cycles, one after the other. Event i is the six bytes at events + 6 * i:
  * what happened, and the message given, five zeros where there is none. Bytes beyond 6 * n stay.
  * Count: n. Refusals: 6, where state_len is not 11 or the message given before is neither five zeros
- * nor a message; 9, where events_len is below 6 * n. */
+ * nor five bytes as a routine writes them, whatever house and unit; 9, where events_len is below
+ * 6 * n. A receiver that docs/receiver.md refuses is no refusal of the call: each event is 5 or 6. */
 uint64_t x10_receive(uint8_t *state, size_t state_len, const uint8_t *halves, size_t n,
                      uint8_t *events, size_t events_len);
 
@@ -116,9 +118,9 @@ uint64_t x10_apply(uint8_t *table, size_t len, uint8_t kind, uint8_t house, uint
  * loads[i]. Then the bench is called once for each byte of lines: call j takes the n draws at
  * draws + n * j and sets lines[j] to the line's half-cycle, or to 7 where a draw of it is refused, and
  * marks[2 * j] * 256 + marks[2 * j + 1] to the stations that are done in it, station i in bit i; bytes
- * of marks beyond 2 * l_len stay. Count: calls not refused. Refusals of the whole: 2; 6, where n is 0
- * or above 16 or m_len is not 5 * n; 7, for a draw of loads; 9, where d_len is not n * l_len or k_len
- * is below 2 * l_len. */
+ * of marks beyond 2 * l_len stay. Count: calls not refused. Refusals of the whole: 2, where any whole
+ * five bytes of messages are no message; 6, where n is 0 or above 16 or m_len is not 5 * n; 7, for a
+ * draw of loads; 9, where d_len is not n * l_len or k_len is below 2 * l_len. */
 uint64_t x10_bench_run(const uint8_t *messages, size_t m_len, const uint8_t *loads, size_t n,
                        const uint8_t *draws, size_t d_len, uint8_t *lines, size_t l_len,
                        uint8_t *marks, size_t k_len);
@@ -128,8 +130,8 @@ uint64_t x10_bench_run(const uint8_t *messages, size_t m_len, const uint8_t *loa
 uint64_t x10_radio_route(uint8_t *table, size_t len, const uint8_t *code, size_t code_len);
 
 /* Hands the receiver one half-cycle and applies the message that it gives, if any, to the table; out
- * gets the six bytes of the event. Count: records whose level differs. Refusals: 1, 3, 5, 6, and 9,
- * where out_len is below 6. The number 4 is no refusal here: the receiver gave a message that tables
+ * gets the six bytes of the event. Count: records whose level differs. Refusals: 1, 3, 5, 6, also
+ * where state_len is not 11, and 9, where out_len is below 6. The number 4 is no refusal here: the receiver gave a message that tables
  * do not carry; receiver and out are written, and the table is as it was. */
 uint64_t x10_mains_route(uint8_t *state, size_t state_len, uint8_t half, uint8_t *table, size_t len,
                          uint8_t *out, size_t out_len);

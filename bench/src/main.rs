@@ -1,10 +1,11 @@
 //! Compares the proved library with the plain Rust model on many inputs, then times both.
 //!
-//!     x10-bench [--seed N] [--size N] [--compare | --measure]
+//!     x10-bench [--seed N] [--size N] [--rounds N] [--row N] [--compare | --measure]
 //!
 //! The seed is taken from the clock where none is given, and printed. A size of 2 has twice the
-//! cases. --compare and --measure do only the one. The status is 1 where anything differs, and where
-//! a number that a routine can answer was not met.
+//! cases; --rounds says how many rounds are timed, and --row times only one row. --compare and
+//! --measure do only the one. The status is 1 where anything differs, and where a number that a
+//! routine can answer, a code that it can write or a situation that is listed did not come.
 
 mod compare;
 mod inputs;
@@ -21,13 +22,16 @@ use std::time::{Instant, SystemTime, UNIX_EPOCH};
 struct Options {
     seed: u64,
     size: usize,
+    rounds: usize,
+    row: Option<usize>,
     compare: bool,
     measure: bool,
 }
 
 fn options() -> Result<Options, String> {
     let clock = SystemTime::now().duration_since(UNIX_EPOCH).map_or(0, |since| since.as_nanos() as u64);
-    let mut options = Options { seed: clock, size: 1, compare: true, measure: true };
+    let mut options =
+        Options { seed: clock, size: 1, rounds: measure::ROUNDS, row: None, compare: true, measure: true };
     let mut args = std::env::args().skip(1);
     while let Some(arg) = args.next() {
         let mut number = || -> Result<u64, String> {
@@ -37,6 +41,8 @@ fn options() -> Result<Options, String> {
         match arg.as_str() {
             "--seed" => options.seed = number()?,
             "--size" => options.size = number()?.max(1) as usize,
+            "--rounds" => options.rounds = number()?.max(1) as usize,
+            "--row" => options.row = Some(number()? as usize),
             "--compare" => options.measure = false,
             "--measure" => options.compare = false,
             _ => return Err(format!("{arg}: no such option")),
@@ -69,11 +75,11 @@ fn compare(seed: u64, size: usize) -> bool {
     differences == 0 && missed.is_empty()
 }
 
-fn measure(seed: u64) {
-    println!("{}\n", measure::how());
+fn measure(seed: u64, rounds: usize, row: Option<usize>) {
+    println!("{}\n", measure::how(rounds));
     println!("| routine | timed | Rattle ns | Rust ns | ratio |");
     println!("|---|---|---:|---:|---:|");
-    for row in measure::all(seed) {
+    for row in measure::all(seed, rounds, row) {
         let (rattle, rust, ratio) = (row.rattle_ns, row.rust_ns, row.ratio());
         println!("| `{}` | {} | {rattle:.2} | {rust:.2} | {ratio:.2} |", row.routine, row.timed);
     }
@@ -94,7 +100,7 @@ fn main() -> ExitCode {
         println!();
     }
     if options.measure {
-        measure(options.seed);
+        measure(options.seed, options.rounds, options.row);
     }
     if same {
         ExitCode::SUCCESS

@@ -12,18 +12,19 @@ use std::hint::black_box;
 use std::time::Instant;
 use x10_model::bytes::{self, EVENT, RECEIVER};
 
-/// Rounds that are timed for each row.
-const ROUNDS: usize = 401;
+/// Rounds that are timed for each row where nothing else is asked for.
+pub const ROUNDS: usize = 401;
 
 /// A batch takes at least this long: enough for the clock's own time not to count, and short enough
 /// for most batches to run through undisturbed where the machine has other work.
 const BATCH_NS: u128 = 200_000;
 
 /// How the table is made, for the reader of its numbers.
-pub fn how() -> String {
+pub fn how(rounds: usize) -> String {
     format!(
-        "Median of {ROUNDS} rounds for each side, the two sides in turn; \
-         buffers are not cleared between calls."
+        "Median of {rounds} rounds for each side, the two sides in turn on the same inputs; release builds. \
+         Lent buffers are not cleared between calls; tables and receivers are put back before each round, \
+         which is not timed."
     )
 }
 
@@ -72,39 +73,57 @@ fn time(side: &mut dyn Side, batch: usize) -> u128 {
     start.elapsed().as_nanos()
 }
 
-/// Times both sides; a run of either has `units` of what is timed.
-fn row(
-    routine: &'static str,
-    timed: &'static str,
-    units: usize,
-    rattle: &mut dyn Side,
-    rust: &mut dyn Side,
-) -> Row {
-    let mut batch = 1;
-    while time(rust, batch).min(time(rattle, batch)) < BATCH_NS {
-        batch *= 2;
-    }
-    let mut rattle_times = Vec::with_capacity(ROUNDS);
-    let mut rust_times = Vec::with_capacity(ROUNDS);
-    for round in 0..ROUNDS {
-        if round % 2 == 0 {
-            rattle_times.push(time(rattle, batch));
-            rust_times.push(time(rust, batch));
-        } else {
-            rust_times.push(time(rust, batch));
-            rattle_times.push(time(rattle, batch));
+/// The table so far.
+struct Rows {
+    rounds: usize,
+    /// The only row that is asked for, counted from 1, where not all are.
+    only: Option<usize>,
+    /// Rows that have come up so far.
+    come: usize,
+    rows: Vec<Row>,
+}
+
+impl Rows {
+    /// Times both sides; a run of either has `units` of what is timed.
+    fn add(
+        &mut self,
+        routine: &'static str,
+        timed: &'static str,
+        units: usize,
+        rattle: &mut dyn Side,
+        rust: &mut dyn Side,
+    ) {
+        self.come += 1;
+        if self.only.is_some_and(|only| only != self.come) {
+            return;
         }
+        let mut batch = 1;
+        while time(rust, batch).min(time(rattle, batch)) < BATCH_NS {
+            batch *= 2;
+        }
+        let mut rattle_times = Vec::with_capacity(self.rounds);
+        let mut rust_times = Vec::with_capacity(self.rounds);
+        for round in 0..self.rounds {
+            if round % 2 == 0 {
+                rattle_times.push(time(rattle, batch));
+                rust_times.push(time(rust, batch));
+            } else {
+                rust_times.push(time(rust, batch));
+                rattle_times.push(time(rattle, batch));
+            }
+        }
+        let median = |mut times: Vec<u128>| {
+            times.sort_unstable();
+            times[self.rounds / 2] as f64 / (batch * units) as f64
+        };
+        let (rattle_ns, rust_ns) = (median(rattle_times), median(rust_times));
+        self.rows.push(Row { routine, timed, rattle_ns, rust_ns });
     }
-    let median = |mut times: Vec<u128>| {
-        times.sort_unstable();
-        times[ROUNDS / 2] as f64 / (batch * units) as f64
-    };
-    Row { routine, timed, rattle_ns: median(rattle_times), rust_ns: median(rust_times) }
 }
 
 /// Both sides of a row from one text: `$lib` stands for the library and for the model in turn.
 macro_rules! row {
-    ($routine:expr, $timed:expr, $units:expr, $lent:expr, $reset:expr, |$s:ident, $lib:ident| $run:expr) => {{
+    ($rows:expr, $routine:expr, $timed:expr, $units:expr, $lent:expr, $reset:expr, |$s:ident, $lib:ident| $run:expr) => {{
         let mut rattle = {
             use x10 as $lib;
             Over { lent: $lent, reset: $reset, run: |$s| $run }
@@ -113,20 +132,21 @@ macro_rules! row {
             use bytes as $lib;
             Over { lent: $lent, reset: $reset, run: |$s| $run }
         };
-        row($routine, $timed, $units, &mut rattle, &mut rust)
+        $rows.add($routine, $timed, $units, &mut rattle, &mut rust);
     }};
 }
 
-pub fn all(seed: u64) -> Vec<Row> {
+/// All rows, or only one, with so many rounds for each.
+pub fn all(seed: u64, rounds: usize, only: Option<usize>) -> Vec<Row> {
     let rng = &mut Rng::new(seed);
-    let mut rows = Vec::new();
+    let mut rows = Rows { rounds, only, come: 0, rows: Vec::new() };
     bursts(rng, &mut rows);
     receivers(rng, &mut rows);
     radio(rng, &mut rows);
     tables(rng, &mut rows);
     benches(rng, &mut rows);
     routes(rng, &mut rows);
-    rows
+    rows.rows
 }
 
 /// Messages of one kind.
@@ -135,15 +155,15 @@ fn messages(rng: &mut Rng, extended: bool) -> Vec<[u8; 5]> {
     all.filter(|message| (message[0] == 3) == extended).take(1024).collect()
 }
 
-fn bursts(rng: &mut Rng, rows: &mut Vec<Row>) {
+fn bursts(rng: &mut Rng, rows: &mut Rows) {
     let kinds = [(false, 44, "burst of 44, a call"), (true, 124, "burst of 124, a call")];
     for (extended, len, timed) in kinds {
         let messages = messages(rng, extended);
-        rows.push(row!("burst", timed, messages.len(), vec![0; len], |_| {}, |buf, lib| {
+        row!(rows, "burst", timed, messages.len(), vec![0; len], |_| {}, |buf, lib| {
             for &message in black_box(&messages) {
                 _ = black_box(&lib::burst(message, black_box(buf)));
             }
-        }));
+        });
     }
 }
 
@@ -153,7 +173,7 @@ fn fresh() -> [u8; RECEIVER] {
     state
 }
 
-/// Undamaged bursts, each after 8 to 10 clear half-cycles.
+/// So many half-cycles: undamaged bursts, each after 8 to 10 clear half-cycles.
 fn sent_line(rng: &mut Rng, len: usize) -> Vec<u8> {
     let mut line = Vec::new();
     while line.len() < len {
@@ -162,20 +182,22 @@ fn sent_line(rng: &mut Rng, len: usize) -> Vec<u8> {
         let sent = bytes::burst(inputs::message(rng), &mut burst).expect("a message");
         line.extend(&burst[..sent]);
     }
+    line.truncate(len);
     line
 }
 
-fn receivers(rng: &mut Rng, rows: &mut Vec<Row>) {
-    rows.push(row!("receiver_fresh", "a call", 1, fresh(), |_| {}, |state, lib| {
+fn receivers(rng: &mut Rng, rows: &mut Rows) {
+    row!(rows, "receiver_fresh", "a call", 1, fresh(), |_| {}, |state, lib| {
         _ = black_box(&lib::receiver_fresh(black_box(state)));
-    }));
+    });
     let lines = [
         (sent_line(rng, 10_000), "slice of bursts, a half-cycle"),
         (vec![0; 10_000], "slice of clear line, a half-cycle"),
     ];
     for (line, timed) in lines {
         let events = vec![0; EVENT * line.len()];
-        rows.push(row!(
+        row!(
+            rows,
             "receive",
             timed,
             line.len(),
@@ -188,7 +210,7 @@ fn receivers(rng: &mut Rng, rows: &mut Vec<Row>) {
                     black_box(&mut lent.1),
                 ));
             }
-        ));
+        );
     }
 }
 
@@ -216,19 +238,19 @@ fn codes(rng: &mut Rng) -> Vec<[u8; 4]> {
     commands(rng).into_iter().map(code).collect()
 }
 
-fn radio(rng: &mut Rng, rows: &mut Vec<Row>) {
+fn radio(rng: &mut Rng, rows: &mut Rows) {
     let commands = commands(rng);
-    rows.push(row!("radio_write", "the 544 commands, a call", commands.len(), [0; 4], |_| {}, |out, lib| {
+    row!(rows, "radio_write", "the 544 commands, a call", commands.len(), [0; 4], |_| {}, |out, lib| {
         for &[command, house, unit] in black_box(&commands) {
             _ = black_box(&lib::radio_write(command, house, unit, black_box(out)));
         }
-    }));
+    });
     let codes = codes(rng);
-    rows.push(row!("radio_read", "the 544 codes, a call", codes.len(), [0; 3], |_| {}, |out, lib| {
+    row!(rows, "radio_read", "the 544 codes, a call", codes.len(), [0; 3], |_| {}, |out, lib| {
         for code in black_box(&codes) {
             _ = black_box(&lib::radio_read(code, black_box(out)));
         }
-    }));
+    });
 }
 
 /// A table with all 256 records present.
@@ -238,10 +260,11 @@ fn full_table(rng: &mut Rng) -> Vec<u8> {
     table
 }
 
-fn tables(rng: &mut Rng, rows: &mut Vec<Row>) {
+fn tables(rng: &mut Rng, rows: &mut Rows) {
     let start = full_table(rng);
     let messages: Vec<[u8; 5]> = (0..256).map(|_| inputs::message(rng)).collect();
-    rows.push(row!(
+    row!(
+        rows,
         "apply",
         "256 modules, mixed messages, a call",
         messages.len(),
@@ -252,14 +275,15 @@ fn tables(rng: &mut Rng, rows: &mut Vec<Row>) {
                 _ = black_box(&lib::apply(black_box(table), message));
             }
         }
-    ));
+    );
 }
 
-fn benches(rng: &mut Rng, rows: &mut Vec<Row>) {
+fn benches(rng: &mut Rng, rows: &mut Rows) {
     const CALLS: usize = 134 * 16;
     let mut bench = inputs::Bench { messages: vec![], loads: vec![], draws: vec![] };
     inputs::bench(rng, 16, CALLS, false, &mut bench);
-    rows.push(row!(
+    row!(
+        rows,
         "bench_run",
         "16 stations, a half-cycle",
         CALLS,
@@ -274,13 +298,14 @@ fn benches(rng: &mut Rng, rows: &mut Vec<Row>) {
                 black_box(&mut lent.1),
             ));
         }
-    ));
+    );
 }
 
-fn routes(rng: &mut Rng, rows: &mut Vec<Row>) {
+fn routes(rng: &mut Rng, rows: &mut Rows) {
     let start = full_table(rng);
     let codes = codes(rng);
-    rows.push(row!(
+    row!(
+        rows,
         "radio_route",
         "256 modules, the 544 codes, a call",
         codes.len(),
@@ -291,9 +316,10 @@ fn routes(rng: &mut Rng, rows: &mut Vec<Row>) {
                 _ = black_box(&lib::radio_route(black_box(table), code));
             }
         }
-    ));
+    );
     let line = sent_line(rng, 250);
-    rows.push(row!(
+    row!(
+        rows,
         "mains_route",
         "256 modules, bursts, a half-cycle",
         line.len(),
@@ -308,5 +334,5 @@ fn routes(rng: &mut Rng, rows: &mut Vec<Row>) {
                 _ = black_box(&lib::mains_route(black_box(state), half, black_box(table), black_box(out)));
             }
         }
-    ));
+    );
 }
