@@ -131,8 +131,9 @@ uint64_t x10_radio_route(uint8_t *table, size_t len, const uint8_t *code, size_t
 
 /* Hands the receiver one half-cycle and applies the message that it gives, if any, to the table; out
  * gets the six bytes of the event. Count: records whose level differs. Refusals: 1, 3, 5, 6, also
- * where state_len is not 11, and 9, where out_len is below 6. The number 4 is no refusal here: the receiver gave a message that tables
- * do not carry; receiver and out are written, and the table is as it was. */
+ * where state_len is not 11, and 9, where out_len is below 6. The number 4 is no refusal here: the
+ * receiver gave a message that tables do not carry; receiver and out are written, and the table is as
+ * it was. */
 uint64_t x10_mains_route(uint8_t *state, size_t state_len, uint8_t half, uint8_t *table, size_t len,
                          uint8_t *out, size_t out_len);
 
