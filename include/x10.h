@@ -1,0 +1,144 @@
+/* x10.h: the exported routines of the static library x10.
+ *
+ * The library is target/staticlib/libx10.a, which `rt staticlib x10` writes for x86-64 Linux. This
+ * header is kept by hand; docs/LINKING.md shows a program that uses it.
+ *
+ * A slice is a pointer and then its length in bytes. Every routine takes any numbers and any slices,
+ * also of length 0, always returns, keeps nothing between calls, and reads and writes nothing but the
+ * slices it was lent. The caller sees to three things: a pointer is not null, also where the length
+ * is 0; that many bytes may be read there, and written where the pointer is not const; and no slice
+ * that is written overlaps another of the same call.
+ *
+ * The answer is count * 256 + number (x10_count, x10_number). The number is 0, or the number of the
+ * refusal, the lowest that applies; a refusal has count 0 and changes nothing that was lent. */
+
+#ifndef X10_H
+#define X10_H
+
+#include <stddef.h>
+#include <stdint.h>
+
+#ifdef __cplusplus
+extern "C" {
+#endif
+
+/* Numbers of refusals, and of the two BROKEN events. 8 and 15 are answers of single stations, which
+ * are not exported. */
+enum x10_number {
+    X10_OK = 0,
+    X10_TABLE = 1,         /* the table's length is not 2,064 */
+    X10_MESSAGE = 2,       /* a house or unit above 15, a kind or function code that makes no message */
+    X10_RECORD = 3,        /* the table breaks a rule */
+    X10_NOT_CARRIED = 4,   /* a message that tables do not carry */
+    X10_HALF = 5,          /* a half-cycle that is not 0 or 1 */
+    X10_STATE = 6,         /* no receiver, or one in no state that there is; no bench of 1 to 16 stations */
+    X10_DRAW = 7,          /* a draw that is not 8, 9 or 10 */
+    X10_SHORT = 9,         /* a lent buffer has not the length that is asked for */
+    X10_PAIR = 10,         /* an event: both half-cycles of a pair were equal */
+    X10_UNSUPPORTED = 11,  /* an event: code 10, 11 or 12 with function bit 1 */
+    X10_RF_LENGTH = 12,    /* a radio code has not four bytes */
+    X10_RF_COMPLEMENT = 13,/* a pair of radio bytes is not complementary */
+    X10_RF_CODE = 14       /* none of the 544 radio codes */
+};
+
+static inline uint8_t x10_number(uint64_t answer) { return (uint8_t)answer; }
+static inline uint64_t x10_count(uint64_t answer) { return answer >> 8; }
+
+/* A message is five numbers: its kind; its house, 0 to 15; a third number, which is the unit, 0 to 15,
+ * of an address or an extended message, and the four-bit code of a function; data and command, which
+ * are looked at in an extended message only. In lent memory it is these five bytes; what a routine
+ * writes there has 0 for the data and command that a message does not have. */
+enum x10_kind { X10_ADDRESS = 1, X10_FUNCTION = 2, X10_EXTENDED = 3 };
+
+enum x10_function {
+    X10_ALL_UNITS_OFF = 0,
+    X10_ALL_LIGHTS_ON = 1,
+    X10_ON = 2,
+    X10_OFF = 3,
+    X10_DIM = 4,
+    X10_BRIGHT = 5,
+    X10_ALL_LIGHTS_OFF = 6,
+    X10_HAIL_REQUEST = 8,
+    X10_HAIL_ACKNOWLEDGE = 9,
+    X10_STATUS_ON = 13,
+    X10_STATUS_OFF = 14,
+    X10_STATUS_REQUEST = 15
+};
+
+#define X10_MESSAGE_BYTES 5
+#define X10_LONGEST_BURST 124
+#define X10_RECEIVER_BYTES 11
+#define X10_EVENT_BYTES 6
+#define X10_TABLE_BYTES 2064
+#define X10_MOST_STATIONS 16
+
+/* Writes the burst of a message, one byte of 0 or 1 for each half-cycle, at the front of buf; bytes
+ * beyond it stay. Count: half-cycles written, 44 or 124. Refusals: 2, 9. */
+uint64_t x10_burst(uint8_t kind, uint8_t house, uint8_t third, uint8_t data, uint8_t command,
+                   uint8_t *buf, size_t len);
+
+/* A receiver is 11 bytes: the last six half-cycles as one number; the place in its frame of the
+ * half-cycle to come, 0 while hunting; the bits read so far in four bytes, highest first; and the
+ * message given before, five zeros where there is none. docs/receiver.md says which values they take.
+ *
+ * Makes these bytes a receiver that hunts and has received nothing. Count 0. Refusal: 6, where len is
+ * not 11. */
+uint64_t x10_receiver_fresh(uint8_t *state, size_t len);
+
+/* The first byte of an event. It is 5 or 6 for a half-cycle that was refused, which leaves the
+ * receiver as it was, and 10 or 11 for a broken frame. */
+enum x10_event { X10_NOTHING = 0, X10_GIVEN = 1, X10_REPEAT = 2 };
+
+/* Hands the receiver n half-cycles, one after the other. Event i is the six bytes at events + 6 * i:
+ * what happened, and the message given, five zeros where there is none. Bytes beyond 6 * n stay.
+ * Count: n. Refusals: 6, where state_len is not 11 or the message given before is neither five zeros
+ * nor five bytes as a routine writes them, whatever house and unit; 9, where events_len is below
+ * 6 * n. A receiver that docs/receiver.md refuses is no refusal of the call: each event is 5 or 6. */
+uint64_t x10_receive(uint8_t *state, size_t state_len, const uint8_t *halves, size_t n,
+                     uint8_t *events, size_t events_len);
+
+enum x10_radio { X10_RADIO_ON = 0, X10_RADIO_OFF = 1, X10_RADIO_BRIGHT = 2, X10_RADIO_DIM = 3 };
+
+/* Writes the four radio bytes of a command at the front of out; bytes beyond them stay. The unit is
+ * looked at for on and off only. Count: 4. Refusals: 2, also for a command that is none of the four;
+ * 9, where len is below 4. */
+uint64_t x10_radio_write(uint8_t command, uint8_t house, uint8_t unit, uint8_t *out, size_t len);
+
+/* Reads a radio code: command, house and unit, 0 for bright and dim, are the three bytes at the front
+ * of out; bytes beyond them stay. Count: 3. Refusals: 9, where out_len is below 3; 12, 13, 14. */
+uint64_t x10_radio_read(const uint8_t *code, size_t code_len, uint8_t *out, size_t out_len);
+
+/* Applies a message to a module table of 2,064 bytes: 256 records of 8 in order A1 to P16 (kind,
+ * level, addressed, group mask, four presets), then one byte for each house. Count: records whose
+ * level differs before and after. Refusals: 1, 2, 3, 4. */
+uint64_t x10_apply(uint8_t *table, size_t len, uint8_t kind, uint8_t house, uint8_t third,
+                   uint8_t data, uint8_t command);
+
+/* Runs a bench of n stations. Station i is loaded with the message at messages + 5 * i and the draw
+ * loads[i]. Then the bench is called once for each byte of lines: call j takes the n draws at
+ * draws + n * j and sets lines[j] to the line's half-cycle, or to 7 where a draw of it is refused, and
+ * marks[2 * j] * 256 + marks[2 * j + 1] to the stations that are done in it, station i in bit i; bytes
+ * of marks beyond 2 * l_len stay. Count: calls not refused. Refusals of the whole: 2, where any whole
+ * five bytes of messages are no message; 6, where n is 0 or above 16 or m_len is not 5 * n; 7, for a
+ * draw of loads; 9, where d_len is not n * l_len or k_len is below 2 * l_len. */
+uint64_t x10_bench_run(const uint8_t *messages, size_t m_len, const uint8_t *loads, size_t n,
+                       const uint8_t *draws, size_t d_len, uint8_t *lines, size_t l_len,
+                       uint8_t *marks, size_t k_len);
+
+/* Applies what a radio code means to a table: both messages of on and off, or none. Count: records
+ * whose level differs before and after the whole. Refusals: 1, 3, 12, 13, 14. */
+uint64_t x10_radio_route(uint8_t *table, size_t len, const uint8_t *code, size_t code_len);
+
+/* Hands the receiver one half-cycle and applies the message that it gives, if any, to the table; out
+ * gets the six bytes of the event. Count: records whose level differs. Refusals: 1, 3, 5, 6, also
+ * where state_len is not 11, and 9, where out_len is below 6. The number 4 is no refusal here: the
+ * receiver gave a message that tables do not carry; receiver and out are written, and the table is as
+ * it was. */
+uint64_t x10_mains_route(uint8_t *state, size_t state_len, uint8_t half, uint8_t *table, size_t len,
+                         uint8_t *out, size_t out_len);
+
+#ifdef __cplusplus
+}
+#endif
+
+#endif
