@@ -1,12 +1,11 @@
 -- What is written is read back: a message's five bytes, an event's six, a receiver's eleven.
 --
 --     message-read-back, event-read-back, receiver-read-back
-use mathlib.Core.Path.{_≡_, refl, ap, _∙_}
-use mathlib.Core.List.{List, [], _∷_}
+use mathlib.Core.Path.{_≡_, refl, ap}
+use mathlib.Core.List.{List}
 use Prim.Native.Nat.{ℕ, _+_, _*_, _/_, _%_, _^_, _<_}
 use native.Mathlib.Omega.{arith}
 use lib.ListN.{getD}
-use Rattle.message.specs.Codes.{functionCode, meaningOf}
 use Rattle.message.proofs.CodeLaws.{meaning-of-function}
 use Rattle.message.specs.declared.Message.{Message}
 use Rattle.message.specs.declared.Message.the-variants.{Address, Function as Command, Extended}
@@ -17,9 +16,7 @@ use Rattle.receiver.specs.declared.Event.{Event}
 use Rattle.receiver.specs.declared.Event.the-variants.{Nothing, Message as Gives, Repeat, BrokenPair, BrokenUnsupported, RefusedHalf, RefusedState}
 use Rattle.wire.specs.Messages.{messageFrom, functionFrom, messageIn, messageBytes}
 use Rattle.wire.specs.Receivers.{givenFrom, fromFour, receiverFrom, receiverBytes, eventBytes, eventGives, eventFrom}
-use Rattle.wire.specs.declared.receivers.ReceiverRead.{ReceiverRead}
 use Rattle.wire.specs.declared.receivers.ReceiverRead.the-variants.{Receiver as Is}
-use Rattle.wire.specs.declared.MessageRead.{MessageRead}
 use Rattle.wire.specs.declared.MessageRead.the-variants.{Message as Says}
 
 pub message-read-back : (m : Message) → messageIn (messageBytes m) ≡ Says m

@@ -2,6 +2,7 @@
 --
 --     sets-append, sets-whole      a run of stores in two parts; one over the whole list
 --     receiver-placed              a receiver's eleven bytes
+--     coded                        a code, and five bytes behind it
 --     event-length, events-length  six bytes for each event
 --     turned                       one turn of a run: one step, and its event's bytes
 --     events-placed                the events' bytes at the buffer's front
@@ -17,7 +18,7 @@ use native.Mathlib.Nat.{add-zero, add-suc, suc-add}
 use native.Mathlib.Omega.{arith}
 use borrow.Author.Tests.{eq-eqb, le-leb, lt-leb}
 use lib.Dec.{leb}
-use lib.ListN.{length, getD, set, take, drop, length-append, drop-of-length-le}
+use lib.ListN.{length, getD, set, drop, length-set, length-append, drop-of-length-le}
 use lib.Seq.{sets, sets-eq, length-sets, drop-cons}
 use Rattle.message.specs.Choice.{pick}
 use Rattle.message.specs.declared.Message.{Message}
@@ -32,7 +33,6 @@ use Rattle.wire.specs.declared.Five.{Five}
 use Rattle.wire.specs.Messages.{listed, messageBytes}
 use Rattle.wire.specs.Receivers.{givenBytes, receiverBytes, stateAfter, eventBytes, firstAfter, runOf, eventsAfter}
 use Rattle.wire.proofs.ReadBack.{eventIn, event-read-back}
-use Rattle.wire.specs.declared.receivers.RunAnswer.{RunAnswer}
 use Rattle.wire.specs.declared.receivers.RunAnswer.the-variants.{Ran, RefusedShort}
 
 pub sets-append : (xs ys l : List ℕ) (i : ℕ) → sets l i (xs ++ ys) ≡ sets (sets l i xs) (i + length xs) ys
@@ -57,6 +57,14 @@ message-length : (m : Message) → length (messageBytes m) ≡ 5
 message-length (Address h u) = refl
 message-length (Command h f) = refl
 message-length (Extended h u d c) = refl
+
+-- a code is stored, and then five bytes behind it
+pub coded : (evs after : List ℕ) (at code : ℕ) (five bytes : List ℕ) → five ≡ bytes → after ≡ sets (set evs at code) (at + 1) five
+    → (length after ≡ length evs) × (after ≡ sets evs at (code ∷ bytes))
+coded evs after at code five bytes e f = (
+  ap length f ∙ length-sets (set evs at code) (at + 1) five ∙ length-set evs at code,
+  f ∙ ap₂ (λ (n : ℕ) (b : List ℕ). sets (set evs at code) n b) (add-one at) e,
+)
 
 pub event-length : (e : Event) → length (eventBytes e) ≡ 6
 event-length Nothing = refl

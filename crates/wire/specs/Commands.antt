@@ -1,6 +1,5 @@
 -- A radio command as three numbers, and as three bytes: command (0 on, 1 off, 2 bright, 3 dim), house, unit.
 use Prim.Native.Nat.{ℕ}
-use mathlib.Core.Bool.{Bool, true, false}
 use mathlib.Core.List.{List, [], _∷_}
 use lib.Dec.{eqb}
 use Rattle.message.specs.Choice.{pick}

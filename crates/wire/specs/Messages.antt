@@ -1,6 +1,5 @@
 -- A message as five numbers, and as five bytes: kind (1 address, 2 function, 3 extended), house, unit or function code, data, command.
 use Prim.Native.Nat.{ℕ}
-use mathlib.Core.Bool.{Bool, true, false}
 use mathlib.Core.List.{List, [], _∷_}
 use lib.Dec.{eqb}
 use lib.ListN.{getD}

@@ -1,9 +1,9 @@
 -- A receiver as eleven bytes, an event as six, and a run of a receiver over half-cycles that are lent.
 use Prim.Native.Nat.{ℕ, _+_, _*_, _/_, _%_, _^_}
-use mathlib.Core.Bool.{Bool, true, false, _&&_, _||_}
+use mathlib.Core.Bool.{_&&_, _||_}
 use mathlib.Core.List.{List, [], _∷_, _++_, flatMap}
 use lib.Dec.{eqb, leb}
-use lib.ListN.{length, getD, drop, replicate}
+use lib.ListN.{length, getD, drop}
 use Rattle.message.specs.Choice.{pick}
 use Rattle.message.specs.Numbers.{HALF, STATE, PAIR, UNSUPPORTED}
 use Rattle.receiver.specs.Hearing.{eventsOf, receiverAfter}
@@ -21,7 +21,6 @@ use Rattle.wire.specs.declared.receivers.ReceiverRead.{ReceiverRead}
 use Rattle.wire.specs.declared.receivers.ReceiverRead.the-variants.{Receiver as Is, NoReceiver}
 use Rattle.wire.specs.declared.receivers.RunAnswer.{RunAnswer}
 use Rattle.wire.specs.declared.receivers.RunAnswer.the-variants.{Ran, RefusedShort}
-use Rattle.wire.specs.declared.receivers.Six.{Six}
 
 -- ---- a receiver: past; at; bits in four bytes, highest first; the message given before in five
 
@@ -93,10 +92,6 @@ eventMessage RefusedState = givenBytes No
 
 abbrev pub eventBytes : Event → List ℕ
 eventBytes e = eventCode e ∷ eventMessage e
-
--- six numbers in their order
-abbrev pub sixListed : Six → List ℕ
-sixListed s = s .code ∷ s .kind ∷ s .house ∷ s .third ∷ s .data ∷ s .command ∷ []
 
 -- the event that six bytes say, and NOTHING where they say none
 abbrev pub eventGives : MessageRead → Event

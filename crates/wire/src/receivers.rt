@@ -3,6 +3,7 @@ use crate::Five;
 use crate::MessageRead;
 use crate::five_of;
 use crate::message_from;
+use message::Message;
 use receiver::Event;
 use receiver::Given;
 use receiver::Heard;
@@ -16,8 +17,8 @@ ghost use lib.Seq.{sets};
 ghost use Rattle.receiver.specs.Receivers.{stepOf};
 ghost use Rattle.receiver.specs.Hearing.{eventsOf, receiverAfter};
 ghost use Rattle.receiver.specs.declared.Given.the-variants.{No};
-ghost use Rattle.wire.specs.Messages.{listed};
-ghost use Rattle.wire.specs.Receivers.{givenFrom, fromFour, receiverFrom, givenBytes, stateAfter, sixListed, eventBytes, eventFrom, firstAfter, runOf, eventsAfter};
+ghost use Rattle.wire.specs.Messages.{listed, messageBytes};
+ghost use Rattle.wire.specs.Receivers.{givenFrom, fromFour, receiverFrom, givenBytes, stateAfter, eventBytes, eventFrom, firstAfter, runOf, eventsAfter};
 
 // What the five bytes of the message given before say.
 enum GivenRead {
@@ -29,16 +30,6 @@ enum GivenRead {
 pub enum ReceiverRead {
     Receiver(Receiver),
     NoReceiver,
-}
-
-// The six bytes of an event: its code, and the five numbers of its message, all 0 where there is none.
-pub struct Six {
-    pub code: u8,
-    pub kind: u8,
-    pub house: u8,
-    pub third: u8,
-    pub data: u8,
-    pub command: u8,
 }
 
 // What a run over half-cycles answers.
@@ -130,57 +121,50 @@ pub fn put_receiver(state: &mut [u8], r: Receiver)
     state[10] = five.command;
 }
 
-// An event that has no message.
-fn plain(code: u8) -> Six
-    ensures { λ r. ⌜ sixListed r ≡ code ∷ givenBytes No ⌝ }
+// Puts five numbers from `at` on.
+fn put_five(events: &mut [u8], at: usize, five: Five)
+    requires { ⌜ at + 5 ≤ length (now events) ⌝ }
+    ensures { λ _. ⌜ now (events .exit) ≡ sets (now (events .entry)) at (listed five) ⌝ }
 {
-    Six {
-        code: code,
-        kind: 0,
-        house: 0,
-        third: 0,
-        data: 0,
-        command: 0,
-    }
+    events[at] = five.kind;
+    events[at + 1] = five.house;
+    events[at + 2] = five.third;
+    events[at + 3] = five.data;
+    events[at + 4] = five.command;
 }
 
-// The six bytes of an event.
-fn six_of(e: Event) -> Six
-    ensures { λ r. ⌜ sixListed r ≡ eventBytes e ⌝ }
+// Puts the six bytes of an event that has no message.
+fn put_plain(events: &mut [u8], at: usize, code: u8)
+    requires { ⌜ at + 6 ≤ length (now events) ⌝ }
+    ensures { λ _. ⌜ now (events .exit) ≡ sets (now (events .entry)) at (code ∷ givenBytes No) ⌝ }
 {
-    match e {
-        Event::Nothing => plain(0),
-        Event::Message(m) => {
-            let five = five_of(m);
-            Six {
-                code: 1,
-                kind: five.kind,
-                house: five.house,
-                third: five.third,
-                data: five.data,
-                command: five.command,
-            }
-        }
-        Event::Repeat => plain(2),
-        Event::BrokenPair => plain(10),
-        Event::BrokenUnsupported => plain(11),
-        Event::RefusedHalf => plain(5),
-        Event::RefusedState => plain(6),
-    }
+    events[at] = code;
+    put_five(events, at + 1, five_given(Given::No));
 }
 
-// Puts the six bytes of an event from `at` on.
+// Puts the six bytes of MESSAGE.
+fn put_message(events: &mut [u8], at: usize, m: Message)
+    requires { ⌜ at + 6 ≤ length (now events) ⌝ }
+    ensures { λ _. ⌜ now (events .exit) ≡ sets (now (events .entry)) at (1 ∷ messageBytes m) ⌝ }
+{
+    events[at] = 1;
+    put_five(events, at + 1, five_of(m));
+}
+
+// Puts the six bytes of an event from `at` on. Each case has stores of its own: one set of stores for all of them is slower.
 fn put_event(events: &mut [u8], at: usize, e: Event)
     requires { ⌜ at + 6 ≤ length (now events) ⌝ }
     ensures { λ _. ⌜ now (events .exit) ≡ sets (now (events .entry)) at (eventBytes e) ⌝ }
 {
-    let six = six_of(e);
-    events[at] = six.code;
-    events[at + 1] = six.kind;
-    events[at + 2] = six.house;
-    events[at + 3] = six.third;
-    events[at + 4] = six.data;
-    events[at + 5] = six.command;
+    match e {
+        Event::Nothing => put_plain(events, at, 0),
+        Event::Message(m) => put_message(events, at, m),
+        Event::Repeat => put_plain(events, at, 2),
+        Event::BrokenPair => put_plain(events, at, 10),
+        Event::BrokenUnsupported => put_plain(events, at, 11),
+        Event::RefusedHalf => put_plain(events, at, 5),
+        Event::RefusedState => put_plain(events, at, 6),
+    }
 }
 
 // One step for each half-cycle, its event put behind those before it. The receiver is kept in a local: one call of `step`, in a

@@ -1,13 +1,11 @@
 -- `x10_radio_write` and `x10_radio_read`: a radio command in three numbers, and its four bytes.
 use Prim.Native.Nat.{ℕ}
-use mathlib.Core.Bool.{Bool, true, false}
-use mathlib.Core.List.{List, [], _∷_, _++_, flatMap}
+use mathlib.Core.List.{List, _++_, flatMap}
 use lib.Dec.{eqb, leb}
 use lib.ListN.{length, drop}
 use Rattle.message.specs.Choice.{pick}
 use Rattle.message.specs.Numbers.{NONE, MESSAGE, SHORT}
-use Rattle.radio.specs.Answers.{Answer, writeAnswer, readAnswer}
-use Rattle.radio.specs.declared.RadioCommand.{RadioCommand}
+use Rattle.radio.specs.Answers.{writeAnswer, readAnswer}
 use Rattle.wire.specs.Commands.{commandBytes}
 use Rattle.wire.specs.declared.commands.CommandRead.{CommandRead}
 use Rattle.wire.specs.declared.commands.CommandRead.the-variants.{Command as Says, NoCommand}

@@ -1,6 +1,5 @@
 -- `x10_receiver_fresh` and `x10_receive`: a receiver in eleven lent bytes, half-cycles, and events of six bytes each.
 use Prim.Native.Nat.{ℕ, _*_}
-use mathlib.Core.Bool.{Bool, true, false}
 use mathlib.Core.List.{List}
 use lib.Dec.{eqb, leb}
 use lib.ListN.{length}

@@ -1,6 +1,5 @@
 -- `x10_apply`, `x10_radio_route` and `x10_mains_route`: a lent module table, and what comes to it.
 use Prim.Native.Nat.{ℕ}
-use mathlib.Core.Bool.{Bool, true, false, _&&_}
 use mathlib.Core.List.{List}
 use lib.Dec.{eqb, leb}
 use lib.ListN.{length}

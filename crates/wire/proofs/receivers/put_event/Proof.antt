@@ -1,70 +1,121 @@
--- `put_event` meets its contract: the six stores are a run of stores, of the event's bytes.
-use mathlib.Core.Path.{ap}
-use native.Mathlib.Numerals.{towards-suc}
-use native.Mathlib.Omega.{arith}
-use lib.ListN.{length-set}
-use lib.Seq.{sets}
+-- `put_event` meets its contract: MESSAGE has its message behind its code, and every other event five 0.
 use borrow.Author.Needs.{needs}
 use Rattle.wire.proofs.receivers.put_event.Statement.{statement}
 use Rattle.wire.proofs.receivers.put_event.Tie as tie
 
-six-of-requires : tie.Need-six-of-requires
-six-of-requires c κs = search needs
+enum-told : tie.Need-enum-told
+enum-told c = search needs
 
-slice-write-events : tie.Need-slice-write-events
-slice-write-events c = search needs
+put-plain-requires : tie.Need-put-plain-requires
+put-plain-requires c κs = search needs
 
-add-events : tie.Need-add-events
-add-events c = search needs
+enum-known-e : tie.Need-enum-known-e
+enum-known-e c = search needs
 
-slice-write-events-2 : tie.Need-slice-write-events-2
-slice-write-events-2 c = simp length-set (omega arith)
+put-message-requires : tie.Need-put-message-requires
+put-message-requires c κs = search needs
 
-add-events-2 : tie.Need-add-events-2
-add-events-2 c = search needs
+enum-told-2 : tie.Need-enum-told-2
+enum-told-2 c = search needs
 
-slice-write-events-3 : tie.Need-slice-write-events-3
-slice-write-events-3 c = simp length-set (omega arith)
+put-plain-requires-2 : tie.Need-put-plain-requires-2
+put-plain-requires-2 c κs = search needs
 
-add-events-3 : tie.Need-add-events-3
-add-events-3 c = search needs
+enum-told-3 : tie.Need-enum-told-3
+enum-told-3 c = search needs
 
-slice-write-events-4 : tie.Need-slice-write-events-4
-slice-write-events-4 c = simp length-set (omega arith)
+put-plain-requires-3 : tie.Need-put-plain-requires-3
+put-plain-requires-3 c κs = search needs
 
-add-events-4 : tie.Need-add-events-4
-add-events-4 c = search needs
+enum-told-4 : tie.Need-enum-told-4
+enum-told-4 c = search needs
 
-slice-write-events-5 : tie.Need-slice-write-events-5
-slice-write-events-5 c = simp length-set (omega arith)
+put-plain-requires-4 : tie.Need-put-plain-requires-4
+put-plain-requires-4 c κs = search needs
 
-add-events-5 : tie.Need-add-events-5
-add-events-5 c = search needs
+enum-told-5 : tie.Need-enum-told-5
+enum-told-5 c = search needs
 
-slice-write-events-6 : tie.Need-slice-write-events-6
-slice-write-events-6 c = simp length-set (omega arith)
+put-plain-requires-5 : tie.Need-put-plain-requires-5
+put-plain-requires-5 c κs = search needs
+
+enum-told-6 : tie.Need-enum-told-6
+enum-told-6 c = search needs
+
+put-plain-requires-6 : tie.Need-put-plain-requires-6
+put-plain-requires-6 c κs = search needs
 
 same-length : tie.Need-same-length
 same-length c = search needs
 
 returns : tie.Need-returns
-returns c = simp towards-suc (ap (sets (c .before .before .args .events .now) (c .before .before .args .at)) (c .six-of .ensures))
+returns c = rw (c .before .before .before .before .enum-told .given .1) (c .before .before .put-plain .ensures)
+
+same-length-2 : tie.Need-same-length-2
+same-length-2 c = search needs
+
+returns-2 : tie.Need-returns-2
+returns-2 c = rw (c .before .before .before .before .before .e .given .1) (c .before .before .put-message .ensures)
+
+same-length-3 : tie.Need-same-length-3
+same-length-3 c = search needs
+
+returns-3 : tie.Need-returns-3
+returns-3 c = rw (c .before .before .before .before .enum-told2 .given .1) (c .before .before .put-plain2 .ensures)
+
+same-length-4 : tie.Need-same-length-4
+same-length-4 c = search needs
+
+returns-4 : tie.Need-returns-4
+returns-4 c = rw (c .before .before .before .before .enum-told3 .given .1) (c .before .before .put-plain3 .ensures)
+
+same-length-5 : tie.Need-same-length-5
+same-length-5 c = search needs
+
+returns-5 : tie.Need-returns-5
+returns-5 c = rw (c .before .before .before .before .enum-told4 .given .1) (c .before .before .put-plain4 .ensures)
+
+same-length-6 : tie.Need-same-length-6
+same-length-6 c = search needs
+
+returns-6 : tie.Need-returns-6
+returns-6 c = rw (c .before .before .before .before .enum-told5 .given .1) (c .before .before .put-plain5 .ensures)
+
+same-length-7 : tie.Need-same-length-7
+same-length-7 c = search needs
+
+returns-7 : tie.Need-returns-7
+returns-7 c = rw (c .before .before .before .before .enum-told6 .given .1) (c .before .before .put-plain6 .ensures)
 
 pub put-event-spec : {M : Type 1} → statement M
 put-event-spec =
     tie.close
     (tie.spec
-    six-of-requires
-    slice-write-events
-    add-events
-    slice-write-events-2
-    add-events-2
-    slice-write-events-3
-    add-events-3
-    slice-write-events-4
-    add-events-4
-    slice-write-events-5
-    add-events-5
-    slice-write-events-6
+    enum-told
+    put-plain-requires
+    enum-known-e
+    put-message-requires
+    enum-told-2
+    put-plain-requires-2
+    enum-told-3
+    put-plain-requires-3
+    enum-told-4
+    put-plain-requires-4
+    enum-told-5
+    put-plain-requires-5
+    enum-told-6
+    put-plain-requires-6
     same-length
-    returns)
+    returns
+    same-length-2
+    returns-2
+    same-length-3
+    returns-3
+    same-length-4
+    returns-4
+    same-length-5
+    returns-5
+    same-length-6
+    returns-6
+    same-length-7
+    returns-7)

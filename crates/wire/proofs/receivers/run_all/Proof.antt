@@ -2,10 +2,10 @@
 -- first one, and their events, put behind those that stand, would fill the buffer in the same way. A turn takes one of them off.
 use mathlib.Core.Path.{_≡_, refl, ap, _∙_, sym}
 use mathlib.Core.List.{List, flatMap}
-use Prim.Native.Nat.{ℕ, _+_, _-_, _*_, _≤_}
+use Prim.Native.Nat.{ℕ, _-_, _*_, _≤_}
 use native.Mathlib.Omega.{arith}
 use borrow.Author.Needs.{needs}
-use lib.ListN.{length, getD, drop, drop-of-length-le}
+use lib.ListN.{length, drop, drop-of-length-le}
 use lib.Seq.{sets}
 use Rattle.receiver.specs.Hearing.{eventsOf, receiverAfter}
 use Rattle.wire.specs.Receivers.{eventBytes}
