@@ -1,5 +1,6 @@
 // A run of the bench over lent bytes: stations loaded from messages and draws, then one call for each byte of the line.
 use bench::BenchAnswer;
+use bench::BenchTurn;
 use bench::SLOTS;
 use bench::half_cycle;
 use station::Station;
@@ -168,7 +169,8 @@ fn mask_of(done: [bool; 16]) -> u16
     mask
 }
 
-// One call for each byte of lines. The stations are kept in a local.
+// One call for each byte of lines. The last call's turn is kept whole, which copies the stations less often than a local for them alone. Before the first
+// call only its slots count.
 fn run_all(
     slots: [Station; 16],
     n: usize,
@@ -179,20 +181,23 @@ fn run_all(
     requires { ⌜ (n ≤ 16) × (length (now draws) ≡ n * length (now lines)) × (2 * length (now lines) ≤ length (now marks)) ⌝ }
     ensures { λ r. ⌜ Called n slots (now (draws .entry)) (now (lines .entry)) (now (marks .entry)) r (now (lines .exit)) (now (marks .exit)) ⌝ }
 {
-    let mut current = slots;
+    let mut turn = BenchTurn {
+        answer: BenchAnswer::Line(0),
+        done: [false; 16],
+        slots: slots,
+    };
     let mut count: usize = 0;
     let mut at: usize = 0;
     let mut j: usize = 0;
     while j < lines.len() {
-        let turn = half_cycle(current, n, draws_at(draws, at, n));
+        let current = turn.slots;
+        turn = half_cycle(current, n, draws_at(draws, at, n));
         let answer = turn.answer;
         let done = turn.done;
-        let next = turn.slots;
         lines[j] = line_byte(answer);
         let mask = mask_of(done);
         marks[2 * j] = (mask / 256 % 256) as u8;
         marks[2 * j + 1] = (mask % 256) as u8;
-        current = next;
         count += counts_as(answer);
         at += n;
         j += 1;

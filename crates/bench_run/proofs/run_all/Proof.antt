@@ -9,20 +9,20 @@ use Rattle.bench_run.proofs.run_all.Statement.{statement}
 use Rattle.bench_run.proofs.run_all.Tie as tie
 
 abbrev Inv-loop : tie.InvT-loop
-Inv-loop n draws lines₀ marks₀ current₀ count₀ at₀ j₀ lines marks current count at j =
-    Going n current₀ draws lines₀ marks₀ lines marks current count at j × (n ≤ 16) × (2 * length lines₀ ≤ length marks₀)
+Inv-loop n draws lines₀ marks₀ turn₀ count₀ at₀ j₀ lines marks turn count at j =
+    Going n (turn₀ .slots) draws lines₀ marks₀ lines marks (turn .slots) count at j × (n ≤ 16) × (2 * length lines₀ ≤ length marks₀)
 
 abbrev μ-loop : tie.MeasureT-loop
-μ-loop n draws lines₀ marks₀ current₀ count₀ at₀ j₀ lines marks current count at j = length lines₀ - j
+μ-loop n draws lines₀ marks₀ turn₀ count₀ at₀ j₀ lines marks turn count at j = length lines₀ - j
 
 loop-holds : tie.Need-loop-holds Inv-loop μ-loop
 loop-holds c = let a = c .before .before .before .args in (going-first (a .n) (a .slots) (a .draws .now) (a .lines .now) (a .marks .now) (c .before .before .before .pre .1), c .before .before .before .pre .0, c .before .before .before .pre .2)
 
 draws-at-requires : tie.Need-draws-at-requires Inv-loop μ-loop
 draws-at-requires c κs =
-    let now = c .before .loop in
-    let a = c .before .before .before .before .before .args in
-    let there = draws-left (a .n) (a .slots) (a .draws .now) (a .lines .now) (a .marks .now) (now .lines) (now .marks) (now .current) (now .count) (now .at) (now .j) (now .inv .0) (omega (arith, now .inv .0 .lines-long)) in
+    let now = c .before .before .loop in
+    let a = c .before .before .before .before .before .before .args in
+    let there = draws-left (a .n) (a .slots) (a .draws .now) (a .lines .now) (a .marks .now) (now .lines) (now .marks) (now .turn .slots) (now .count) (now .at) (now .j) (now .inv .0) (omega (arith, now .inv .0 .lines-long)) in
     (now .inv .1, omega (arith, there))
 
 half-cycle-requires : tie.Need-half-cycle-requires Inv-loop μ-loop
@@ -78,8 +78,8 @@ loop-again c =
     let now = c .before .before .before .before .before .before .before .before .loop in
     let a = c .before .before .before .before .before .before .before .before .before .before .before .before .args in
     let next =
-    going-next (a .n) (a .slots) (a .draws .now) (a .lines .now) (a .marks .now) (now .lines) (now .marks) (now .current) (now .count) (now .at) (now .j) (now .inv .0) (omega (arith, now .inv .0 .lines-long))
-    (c .before .before .before .before .before .half-cycle .result) (c .before .before .before .before .before .before .draws-at .result) (c .before .before .before .before .before .half-cycle .ensures .0) (c .before .before .before .before .before .before .draws-at .ensures)
+    going-next (a .n) (a .slots) (a .draws .now) (a .lines .now) (a .marks .now) (now .lines) (now .marks) (now .turn .slots) (now .count) (now .at) (now .j) (now .inv .0) (omega (arith, now .inv .0 .lines-long))
+    (c .before .before .before .before .half-cycle .result) (c .before .before .before .before .before .draws-at .result) (c .before .before .before .before .half-cycle .ensures .0) (c .before .before .before .before .before .draws-at .ensures)
     (c .before .before .line-byte .result) (c .before .mask-of .result) (c .counts-as .result) (c .before .before .line-byte .ensures) (c .before .mask-of .ensures) (c .counts-as .ensures) in
     (next, now .inv .1, now .inv .2)
 
@@ -93,7 +93,7 @@ returns : tie.Need-returns Inv-loop μ-loop
 returns c =
     let now = c .before .loop in
     let a = c .before .before .before .before .before .args in
-    going-last (a .n) (a .slots) (a .draws .now) (a .lines .now) (a .marks .now) (now .lines) (now .marks) (now .current) (now .count) (now .at) (now .j) (now .inv .0) (omega (arith, now .inv .0 .lines-long, c .loop-test .left)) (now .inv .2)
+    going-last (a .n) (a .slots) (a .draws .now) (a .lines .now) (a .marks .now) (now .lines) (now .marks) (now .turn .slots) (now .count) (now .at) (now .j) (now .inv .0) (omega (arith, now .inv .0 .lines-long, c .loop-test .left)) (now .inv .2)
 
 pub run-all-spec : {M : Type 1} → statement M
 run-all-spec =
