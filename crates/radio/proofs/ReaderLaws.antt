@@ -1,22 +1,61 @@
 -- Laws for the reader: what the definition gives for b and c, by the tests that the code makes of them.
 --
+--     both-equal, one-differs                      what the code's test of two pairs of numbers says of them
+--     paired, not-paired                           where both complements are right, and where one is not
 --     bright-read, dim-read, on-read, off-read     where the tests hold: the house and unit taken out of b and c make b and c again
 --     no-step, no-switch                           where one does not: each command would pass it
-use mathlib.Core.Path.{_≡_, refl, sym, ap}
-use mathlib.Core.Bool.{true, _&&_}
-use mathlib.Core.List.{[], _∷_}
+use mathlib.Core.Path.{_≡_, refl, sym, ap, _∙_}
+use mathlib.Core.Bool.{Bool, true, false, not, _&&_, _||_, and-eq-true-iff, true≢false}
+use mathlib.Core.List.{List, [], _∷_}
 use mathlib.Core.Logic.{_⊎_, inl, inr}
-use Prim.Native.Nat.{ℕ, _+_, _*_, _/_, _%_, _<_}
+use Prim.Native.Nat.{ℕ, _+_, _-_, _*_, _/_, _%_, _<_}
 use native.Mathlib.Omega.{arith}
-use borrow.Author.Tests.{le-leb}
-use lib.Dec.{leb}
-use Rattle.message.specs.Numbers.{CODE}
+use borrow.Author.Tests.{eqb-true, eq-eqb, not-true, not-false, le-leb}
+use lib.Dec.{eqb, leb}
+use lib.ListN.{length, getD}
+use Rattle.message.specs.Numbers.{COMPLEMENT, CODE}
 use Rattle.radio.specs.Codes.{houseOf, houseInB, unitInB, unitInC, byteB, byteC}
-use Rattle.radio.specs.Answers.{given, refused, codeAnswer}
+use Rattle.radio.specs.Answers.{given, refused, codeAnswer, readAnswer}
 use Rattle.radio.specs.declared.RadioCommand.{RadioCommand}
 use Rattle.radio.specs.declared.RadioCommand.the-variants.{On, Off, Bright, Dim}
 use Rattle.radio.proofs.CodeLaws.{nibble-of-house, house-below, bit, Bits, bits, digits, unitFrom}
 use Rattle.radio.proofs.CommandLaws.{code-given, code-refused}
+
+-- ---- two tests joined: whether one of two fails
+
+both-hold : (s t : Bool) → (not s || not t) ≡ false → (s && t) ≡ true
+both-hold true t e = not-false t e
+both-hold false t e = sym e
+
+one-fails : (s t : Bool) → (not s || not t) ≡ true → (s && t) ≡ false
+one-fails true t e = not-true t e
+one-fails false t e = refl
+
+module _ (a b x y : ℕ) where
+  pub both-equal : (not (eqb a b) || not (eqb x y)) ≡ false → (a ≡ b) × (x ≡ y)
+  both-equal e =
+      let p = and-eq-true-iff (eqb a b) (eqb x y) .0 (both-hold (eqb a b) (eqb x y) e) in
+      (eqb-true a b (p .0), eqb-true x y (p .1))
+
+  pub one-differs : (not (eqb a b) || not (eqb x y)) ≡ true → a ≡ b → x ≡ y → ⊥
+  one-differs e p q = true≢false (sym e ∙ simp (eq-eqb a b p, eq-eqb x y q))
+
+-- ---- the complements
+
+module _ (code : List ℕ) (four : length code ≡ 4) where
+  abbrev b-paired : Bool
+  b-paired = eqb (getD code 1 0) (255 - getD code 0 0)
+
+  abbrev c-paired : Bool
+  c-paired = eqb (getD code 3 0) (255 - getD code 2 0)
+
+  pub paired : (not b-paired || not c-paired) ≡ false → readAnswer code ≡ codeAnswer (getD code 0 0) (getD code 2 0)
+  unfolding readAnswer
+  paired e = simp (eq-eqb (length code) 4 four, both-hold b-paired c-paired e)
+
+  pub not-paired : (not b-paired || not c-paired) ≡ true → readAnswer code ≡ refused COMPLEMENT
+  unfolding readAnswer
+  not-paired e = simp (eq-eqb (length code) 4 four, one-fails b-paired c-paired e)
 
 -- ---- the house and the unit taken out of b and c
 

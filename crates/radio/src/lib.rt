@@ -2,7 +2,7 @@
 use message::Function;
 use message::Message;
 ghost use mathlib.Core.Path.{_≡_};
-ghost use Prim.Native.Nat.{_+_, _<_};
+ghost use Prim.Native.Nat.{_+_, _/_, _<_};
 ghost use Rattle.radio.specs.Codes.{nibbleOf, houseOf, commandOk, houseInB, unitInB, unitInC, byteB, byteC};
 ghost use Rattle.radio.specs.Answers.{given, answerOfWrite, writeAnswer, answerOfRead, readAnswer, codeAnswer, answerOfMessages, addressThen, messagesOf, messagesAnswer};
 
@@ -45,9 +45,6 @@ pub enum RadioMessages {
 // The high four bits of b for each house.
 const HOUSE_NIBBLES: [u8; 16] = [6, 7, 4, 5, 8, 9, 10, 11, 14, 15, 12, 13, 0, 1, 2, 3];
 
-// The house of each four bits.
-const NIBBLE_HOUSES: [u8; 16] = [12, 13, 14, 15, 2, 3, 0, 1, 4, 5, 6, 7, 10, 11, 8, 9];
-
 // The high four bits of b for a house, and 0 for a number above 15.
 fn nibble_of(house: u8) -> u8
     ensures { λ r. ⌜ r ≡ nibbleOf house ⌝ }
@@ -56,13 +53,12 @@ fn nibble_of(house: u8) -> u8
     if n < 16 { HOUSE_NIBBLES[n] } else { 0 }
 }
 
-// The house that has these high four bits of b.
+// The house that has these high four bits of b: computed, since a second table would be rebuilt on the stack at each use.
 fn house_of(nibble: u8) -> u8
     requires { ⌜ nibble < 16 ⌝ }
     ensures { λ r. ⌜ r ≡ houseOf nibble ⌝ }
 {
-    let n = nibble as usize;
-    NIBBLE_HOUSES[n]
+    (nibble ^ (nibble / 4 % 2 * 10)) ^ 12
 }
 
 // Whether the house and the unit are 0 to 15.
@@ -126,14 +122,13 @@ pub fn write(command: RadioCommand) -> RadioBytes
 }
 
 // The bright or dim that b and a c of 128 or more name.
-fn step_of(b: u8, c: u8) -> RadioRead
-    requires { ⌜ 127 < c ⌝ }
+fn step_of(house: u8, b: u8, c: u8) -> RadioRead
+    requires { ⌜ (house ≡ houseOf (b / 16)) × (127 < c) ⌝ }
     ensures { λ r. ⌜ answerOfRead r ≡ codeAnswer b c ⌝ }
 {
     if b % 16 != 0 {
         return RadioRead::RefusedCode;
     }
-    let house = house_of(b / 16);
     if c == 136 {
         return RadioRead::Command(RadioCommand::Bright { house: house });
     }
@@ -144,18 +139,14 @@ fn step_of(b: u8, c: u8) -> RadioRead
 }
 
 // The on or off that b and a c below 128 name. Bits 3, 1 and 0 of b and bits 2, 1 and 0 of c must be 0.
-fn switch_of(b: u8, c: u8) -> RadioRead
-    requires { ⌜ c < 128 ⌝ }
+fn switch_of(house: u8, b: u8, c: u8) -> RadioRead
+    requires { ⌜ (house ≡ houseOf (b / 16)) × (c < 128) ⌝ }
     ensures { λ r. ⌜ answerOfRead r ≡ codeAnswer b c ⌝ }
 {
     let eight = b / 4 % 2;
-    if b % 16 != eight * 4 {
+    if (b % 16 != eight * 4) | (c % 8 != 0) {
         return RadioRead::RefusedCode;
     }
-    if c % 8 != 0 {
-        return RadioRead::RefusedCode;
-    }
-    let house = house_of(b / 16);
     let unit = eight * 8 + c / 64 % 2 * 4 + c / 8 % 2 * 2 + c / 16 % 2;
     if c / 32 % 2 == 0 {
         RadioRead::Command(RadioCommand::On {
@@ -170,14 +161,15 @@ fn switch_of(b: u8, c: u8) -> RadioRead
     }
 }
 
-// The command that b and c name.
+// The command that b and c name. One call of house_of for both kinds keeps read small enough to be inlined.
 fn command_of(b: u8, c: u8) -> RadioRead
     ensures { λ r. ⌜ answerOfRead r ≡ codeAnswer b c ⌝ }
 {
+    let house = house_of(b / 16);
     if c < 128 {
-        switch_of(b, c)
+        switch_of(house, b, c)
     } else {
-        step_of(b, c)
+        step_of(house, b, c)
     }
 }
 
@@ -191,10 +183,7 @@ pub fn read(code: &[u8]) -> RadioRead
     }
     let b = code[0];
     let c = code[2];
-    if code[1] != 255 - b {
-        return RadioRead::RefusedComplement;
-    }
-    if code[3] != 255 - c {
+    if (code[1] != 255 - b) | (code[3] != 255 - c) {
         return RadioRead::RefusedComplement;
     }
     command_of(b, c)

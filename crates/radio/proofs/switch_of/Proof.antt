@@ -3,7 +3,7 @@
 use mathlib.Core.Path.{sym}
 use borrow.Author.Needs.{needs}
 use Rattle.radio.proofs.CodeLaws.{unitFrom}
-use Rattle.radio.proofs.ReaderLaws.{on-read, off-read, no-switch}
+use Rattle.radio.proofs.ReaderLaws.{both-equal, one-differs, on-read, off-read, no-switch}
 use Rattle.radio.proofs.switch_of.Statement.{statement}
 use Rattle.radio.proofs.switch_of.Tie as tie
 
@@ -11,13 +11,7 @@ mul-if1 : tie.Need-mul-if1
 mul-if1 c = search needs
 
 returns : tie.Need-returns
-returns c = let s = c .before in sym (no-switch (s .args .b) (s .args .c) (s .pre) (λ p z. c .if1 .taken p))
-
-returns-2 : tie.Need-returns-2
-returns-2 c = let s = c .before .before in sym (no-switch (s .args .b) (s .args .c) (s .pre) (λ p z. c .if2 .taken z))
-
-house-of-requires : tie.Need-house-of-requires
-house-of-requires c κs = search needs
+returns c = let s = c .before in sym (no-switch (s .args .b) (s .args .c) (s .pre .1) (one-differs _ _ _ _ (c .if1 .taken)))
 
 mul-unit : tie.Need-mul-unit
 mul-unit c = search needs
@@ -37,19 +31,21 @@ add-unit-2 c = search needs
 add-unit-3 : tie.Need-add-unit-3
 add-unit-3 c = search needs
 
+returns-2 : tie.Need-returns-2
+unfolding unitFrom
+returns-2 c =
+    let s = c .before .before in
+    let p = both-equal _ _ _ _ (c .before .if1 .left) in
+    simp (s .pre .0)
+    (sym (on-read (s .args .b) (s .args .c) (s .fits .b .fits) (s .pre .1) (p .0) (p .1) (c .if2 .taken)))
+
 returns-3 : tie.Need-returns-3
 unfolding unitFrom
 returns-3 c =
-    let s = c .before .before .before .before in
-    simp (c .before .house-of .ensures)
-    (sym (on-read (s .args .b) (s .args .c) (s .fits .b .fits) (s .pre) (c .before .before .before .if1 .left) (c .before .before .if2 .left) (c .if3 .taken)))
-
-returns-4 : tie.Need-returns-4
-unfolding unitFrom
-returns-4 c =
-    let s = c .before .before .before .before in
-    simp (c .before .house-of .ensures)
-    (sym (off-read (s .args .b) (s .args .c) (s .fits .b .fits) (s .pre) (c .before .before .before .if1 .left) (c .before .before .if2 .left) (c .if3 .left)))
+    let s = c .before .before in
+    let p = both-equal _ _ _ _ (c .before .if1 .left) in
+    simp (s .pre .0)
+    (sym (off-read (s .args .b) (s .args .c) (s .fits .b .fits) (s .pre .1) (p .0) (p .1) (c .if2 .left)))
 
 pub switch-of-spec : {M : Type 1} → statement M
 switch-of-spec =
@@ -57,13 +53,11 @@ switch-of-spec =
     (tie.spec
     mul-if1
     returns
-    returns-2
-    house-of-requires
     mul-unit
     mul-unit-2
     add-unit
     mul-unit-3
     add-unit-2
     add-unit-3
-    returns-3
-    returns-4)
+    returns-2
+    returns-3)
