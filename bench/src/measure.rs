@@ -68,7 +68,7 @@ impl<S, R: FnMut(&mut S), F: FnMut(&mut S)> Side for Over<S, R, F> {
 
 /// The time of `batch` runs, in nanoseconds, so many calls deep.
 fn time(side: &mut dyn Side, batch: usize, depth: usize) -> u128 {
-    // Where the stack stands decides how much a copy of locals costs, and is another in each process.
+    // Where the stack stands differs from process to process and may change what copies of locals cost.
     let pad = black_box([depth; 2]);
     if depth > 0 {
         return black_box(time(side, batch, pad[0] - 1));
