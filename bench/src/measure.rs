@@ -1,9 +1,9 @@
 //! Times the library and the model side by side, on the same inputs, in one run.
 //!
 //! A round times a batch of one side and then the same batch of the other; which is first changes
-//! from round to round. The time of a side is the median of its rounds. Lent buffers are not cleared
-//! between calls; tables and receivers start each batch from the same bytes, which are put there
-//! outside the timed part.
+//! from round to round, and so does the place of the stack. The time of a side is the median of its
+//! rounds. Lent buffers are not cleared between calls; tables and receivers start each batch from the
+//! same bytes, which are put there outside the timed part.
 
 use crate::inputs::{self, TABLE};
 use crate::rng::Rng;
@@ -18,6 +18,9 @@ pub const ROUNDS: usize = 401;
 /// A batch takes at least this long: enough for the clock's own time not to count, and short enough
 /// for most batches to run through undisturbed where the machine has other work.
 const BATCH_NS: u128 = 200_000;
+
+/// Places of the stack that the rounds take in turn.
+const DEPTHS: usize = 50;
 
 /// How the table is made, for the reader of its numbers.
 pub fn how(rounds: usize) -> String {
@@ -63,8 +66,13 @@ impl<S, R: FnMut(&mut S), F: FnMut(&mut S)> Side for Over<S, R, F> {
     }
 }
 
-/// The time of `batch` runs, in nanoseconds.
-fn time(side: &mut dyn Side, batch: usize) -> u128 {
+/// The time of `batch` runs, in nanoseconds, so many calls deep.
+fn time(side: &mut dyn Side, batch: usize, depth: usize) -> u128 {
+    // Where the stack stands differs from process to process and may change what copies of locals cost.
+    let pad = black_box([depth; 2]);
+    if depth > 0 {
+        return black_box(time(side, batch, pad[0] - 1));
+    }
     side.reset();
     let start = Instant::now();
     for _ in 0..batch {
@@ -98,18 +106,19 @@ impl Rows {
             return;
         }
         let mut batch = 1;
-        while time(rust, batch).min(time(rattle, batch)) < BATCH_NS {
+        while time(rust, batch, 0).min(time(rattle, batch, 0)) < BATCH_NS {
             batch *= 2;
         }
         let mut rattle_times = Vec::with_capacity(self.rounds);
         let mut rust_times = Vec::with_capacity(self.rounds);
         for round in 0..self.rounds {
+            let depth = round / 2 % DEPTHS;
             if round % 2 == 0 {
-                rattle_times.push(time(rattle, batch));
-                rust_times.push(time(rust, batch));
+                rattle_times.push(time(rattle, batch, depth));
+                rust_times.push(time(rust, batch, depth));
             } else {
-                rust_times.push(time(rust, batch));
-                rattle_times.push(time(rattle, batch));
+                rust_times.push(time(rust, batch, depth));
+                rattle_times.push(time(rattle, batch, depth));
             }
         }
         let median = |mut times: Vec<u128>| {
