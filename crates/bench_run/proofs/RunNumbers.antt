@@ -3,14 +3,14 @@
 --     draws-match, draws-differ      a draw for each station and call, by a quotient and a remainder
 --     run-refused, run-done          the answer, the lines and the marks
 use mathlib.Core.Path.{_≡_, refl, sym, ap, subst, _∙_}
-use mathlib.Core.Bool.{true, false}
+use mathlib.Core.Bool.{false}
 use mathlib.Core.List.{List}
-use Prim.Native.Nat.{ℕ, _+_, _*_, _/_, _%_, _≤_, _<_}
+use Prim.Native.Nat.{ℕ, _*_, _/_, _%_, _<_}
 use native.Mathlib.Nat.{div-add-mod, mul-div-cancel-left, mul-mod-right}
 use native.Mathlib.Omega.{arith}
 use lib.Dec.{eqb}
 use lib.ListN.{length}
-use Rattle.message.specs.Numbers.{Answer, NONE}
+use Rattle.message.specs.Numbers.{NONE}
 use Rattle.station.specs.declared.Station.{Station}
 use Rattle.bench_run.specs.BenchRuns.{slotsFrom, Called, Lent, runNumber, turnsOf, runAnswer, linesAfter, marksAfter}
 

@@ -2,7 +2,7 @@
 use mathlib.Core.Path.{_≡_, refl, ap, _∙_, sym}
 use Prim.Native.Nat.{ℕ, _+_, _-_, _≤_}
 use native.Mathlib.Omega.{arith}
-use lib.ListN.{length, getD, set, take, drop, length-set, length-drop}
+use lib.ListN.{length, getD, take, drop, length-set, length-drop}
 use Rattle.bench_run.proofs.LoadLaws.{draw-put}
 use Rattle.bench_run.proofs.draws_at.Statement.{statement}
 use Rattle.bench_run.proofs.draws_at.Tie as tie

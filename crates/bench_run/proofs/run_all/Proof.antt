@@ -1,6 +1,6 @@
 -- `run_all` meets its contract. The loop's invariant (`Going`): the calls that are left would fill lines and marks, and bring the count, to where
 -- all calls bring them. A turn makes the first of them.
-use Prim.Native.Nat.{ℕ, _-_, _*_, _≤_}
+use Prim.Native.Nat.{_-_, _*_, _≤_}
 use native.Mathlib.Omega.{arith}
 use lib.ListN.{length, length-set}
 use borrow.Author.Needs.{needs}
