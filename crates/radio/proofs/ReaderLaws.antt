@@ -2,6 +2,7 @@
 --
 --     both-equal, one-differs                      what the code's test of two pairs of numbers says of them
 --     paired, not-paired                           where both complements are right, and where one is not
+--     unit-masked                                  the unit that the code takes out of b and c
 --     bright-read, dim-read, on-read, off-read     where the tests hold: the house and unit taken out of b and c make b and c again
 --     no-step, no-switch                           where one does not: each command would pass it
 use mathlib.Core.Path.{_≡_, refl, sym, ap, _∙_}
@@ -11,6 +12,7 @@ use mathlib.Core.Logic.{_⊎_, inl, inr}
 use Prim.Native.Nat.{ℕ, _+_, _-_, _*_, _/_, _%_, _<_}
 use native.Mathlib.Omega.{arith}
 use borrow.Author.Tests.{eqb-true, eq-eqb, not-true, not-false, le-leb}
+use lib.Bits.{bitAnd, and-step, and-high}
 use lib.Dec.{eqb, leb}
 use lib.ListN.{length, getD}
 use Rattle.message.specs.Numbers.{COMPLEMENT, CODE}
@@ -65,6 +67,16 @@ house-again b l = ap (λ (n : ℕ). n * 16) (nibble-of-house (b / 16) (omega ari
 house-fits : (b : ℕ) → b < 256 → leb (houseOf (b / 16)) 15 ≡ true
 house-fits b l = le-leb (houseOf (b / 16)) 15 (omega (arith, house-below (b / 16) (omega arith)))
 
+-- the masks of bit 1, and of bits 2 and 0
+two : (n : ℕ) → bitAnd n 2 ≡ n / 2 % 2 * 2
+two n = and-high n 1 1
+
+five : (n : ℕ) → bitAnd n 5 ≡ n / 4 % 2 * 4 + n % 2
+five n =
+    let quarter : n / 2 / 2 ≡ n / 4 = omega arith in
+    let high : bitAnd (n / 2) 2 ≡ n / 4 % 2 * 2 = two (n / 2) ∙ ap (λ (m : ℕ). m % 2 * 2) quarter in
+    omega (arith, and-step n 5, high)
+
 -- c from its four bits, as it is from the bits of c / 8
 weigh : (c q f o t : ℕ) → c % 8 ≡ 0 → q * 8 + f * 4 + o * 2 + t ≡ c / 8 → q * 64 + t * 8 + o * 16 + f * 32 ≡ c
 weigh c q f o t z d = omega arith
@@ -80,6 +92,14 @@ module _ (b c : ℕ) where
   unit-bits : Bits (unitFrom b c) (b / 4 % 2) (c / 64 % 2) (c / 8 % 2) (c / 16 % 2)
   unfolding unitFrom
   unit-bits = bits (unitFrom b c) (b / 4 % 2) (c / 64 % 2) (c / 8 % 2) (c / 16 % 2) (bit (b / 4)) (bit (c / 64)) (bit (c / 8)) (bit (c / 16)) refl
+
+  -- the unit as the code takes it out, by masks
+  pub unit-masked : b / 4 % 2 * 8 + bitAnd (c / 16) 5 + bitAnd (c / 4) 2 ≡ unitFrom b c
+  unfolding unitFrom
+  unit-masked =
+      let e₆ : c / 16 / 4 ≡ c / 64 = omega arith in
+      let e₃ : c / 4 / 2 ≡ c / 8 = omega arith in
+      simp (five (c / 16), two (c / 4), e₆, e₃) (omega arith)
 
   unit-again : c < 128 → c % 8 ≡ 0 → unitInC (unitFrom b c) + c / 32 % 2 * 32 ≡ c
   unit-again l z = simp (unit-bits .four, unit-bits .two, unit-bits .one) (bits-again c l z)

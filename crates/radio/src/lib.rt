@@ -147,7 +147,8 @@ fn switch_of(house: u8, b: u8, c: u8) -> RadioRead
     if (b % 16 != eight * 4) | (c % 8 != 0) {
         return RadioRead::RefusedCode;
     }
-    let unit = eight * 8 + c / 64 % 2 * 4 + c / 8 % 2 * 2 + c / 16 % 2;
+    // In c / 16 the unit's 4 and 1 stand at their own places, and in c / 4 its 2.
+    let unit = eight * 8 + ((c / 16) & 5) + ((c / 4) & 2);
     if c / 32 % 2 == 0 {
         RadioRead::Command(RadioCommand::On {
             house: house,
