@@ -92,7 +92,7 @@ module _ (n : ℕ) (slots : List Station) (draws lines marks : List ℕ) where
 
   module _ (linesNow marksNow : List ℕ) (current : List Station) (count at j : ℕ) (g : Going n slots draws lines marks linesNow marksNow current count at j) where
     pub going-last : length lines ≤ j → 2 * length lines ≤ length marks → Called n slots draws lines marks count linesNow marksNow
-    unfolding callsOf counted map flatMap
+    unfolding callsOf counted flatMap
     going-last end room =
         let none : 0 ≡ length lines - j = omega arith in
         let turns = callsOf (length lines) n slots draws in
@@ -135,7 +135,7 @@ module _ (n : ℕ) (slots : List Station) (draws lines marks : List ℕ) where
 
         pub going-next : (x m k : ℕ) → x ≡ lineByte (o .answer) → m ≡ maskOf (o .done) → (k ≡ counts (o .answer)) × (k ≤ 1)
             → Going n slots draws lines marks (set linesNow j x) (set (set marksNow (2 * j) (m / 256 % 256)) (2 * j + 1) (m % 256)) (o .slots) (count + k) (at + n) (j + 1)
-        unfolding counted map flatMap
+        unfolding counted flatMap
         going-next x m k ex em ek =
             let rest = callsOf (length lines - (j + 1)) n (o .slots) (drop (at + n) draws) in
             let marked = set (set marksNow (2 * j) (m / 256 % 256)) (2 * j + 1) (m % 256) in
