@@ -4,6 +4,7 @@
 --     frame-placed, burst-placed         the first frame, and both, in the array
 --     burst-taken                        the burst taken from the array
 --     frame-at-most, count-at-most       the longest frame
+--     frame-of-bits                      a frame's length from its bits
 --     refused-message, refused-short, burst-written     what the writer owes at each return
 use mathlib.Core.Path.{_≡_, refl, sym, ap, ap₂, subst, _∙_}
 use mathlib.Core.Bool.{true, false}
@@ -108,6 +109,12 @@ pub frame-at-most : (m : Message) → frameLength m ≤ 62
 frame-at-most (Address h u) = lit≤ tt
 frame-at-most (Command h f) = lit≤ tt
 frame-at-most (Extended h u d c) = lit≤ tt
+
+-- the start, and a pair for each bit
+pub frame-of-bits : (m : Message) → frameLength m ≡ 4 + (bitCount m + bitCount m)
+frame-of-bits (Address h u) = refl
+frame-of-bits (Command h f) = refl
+frame-of-bits (Extended h u d c) = refl
 
 pub count-at-most : (m : Message) → bitCount m ≤ 29
 count-at-most (Address h u) = lit≤ tt

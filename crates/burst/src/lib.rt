@@ -20,23 +20,12 @@ pub enum BurstAnswer {
     RefusedShort,
 }
 
-// How many half-cycles a message's frame has.
+// How many half-cycles a message's frame has: the start and a pair for each bit.
 pub fn frame_length(m: Message) -> usize
     ensures { λ r. ⌜ r ≡ frameLength m ⌝ }
 {
-    match m {
-        Message::Address { house: _, unit: _ } => 22,
-        Message::Function {
-            house: _,
-            function: _,
-        } => 22,
-        Message::Extended {
-            house: _,
-            unit: _,
-            data: _,
-            command: _,
-        } => 62,
-    }
+    let bits = bit_count(m);
+    4 + (bits + bits)
 }
 
 // Puts the n lowest bits of a word into the array from `at` on, highest first, each followed by its complement.

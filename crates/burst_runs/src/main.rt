@@ -65,10 +65,19 @@ fn address(house: u8, unit: u8) -> Message {
     }
 }
 
-fn function(house: u8, function: Function) -> Message {
+// House A, on.
+fn a_on() -> Message {
     Message::Function {
-        house: house,
-        function: function,
+        house: 0,
+        function: Function::On,
+    }
+}
+
+// House P, status request: the highest house and the highest code.
+fn p_status_request() -> Message {
+    Message::Function {
+        house: 15,
+        function: Function::StatusRequest,
     }
 }
 
@@ -77,13 +86,9 @@ fn main() {
     show(b"A1", address(0, 0), 46);
     show(b"A1", address(0, 0), 43);
     show(b"A1", address(0, 0), 0);
-    show(b"A ON", function(0, Function::On), 44);
+    show(b"A ON", a_on(), 44);
     show(b"M13", address(12, 12), 44);
-    show(
-        b"P STATUS REQUEST",
-        function(15, Function::StatusRequest),
-        44,
-    );
+    show(b"P STATUS REQUEST", p_status_request(), 44);
     show(b"B2 C5 31", extended(), 124);
     show(b"B2 C5 31", extended(), 126);
     show(b"B2 C5 31", extended(), 123);

@@ -1,6 +1,5 @@
 -- The half-cycle at a place of a burst, said without the burst: the start's, or a bit of the message's word, or its complement.
 --
---     frame-of-bits     the half-cycles of a frame, by its bits
 --     bit-at        the bit at a place among the bits of a number
 --     pair-at       the half-cycle at a place among the pairs
 --     start-one, start-zero, frame-pair     the half-cycle at a place of a frame
@@ -14,19 +13,9 @@ use lib.Dec.{eqb}
 use lib.ListN.{length, getD, List·getD-append}
 use lib.Seq.{getD-append-add}
 use Rattle.message.specs.Choice.{pick}
-use Rattle.message.specs.Words.{bitCount}
 use Rattle.message.specs.declared.Message.{Message}
-use Rattle.message.specs.declared.Message.the-variants.{Address, Function as Command, Extended}
 use Rattle.burst.specs.Frames.{bitsOf, pairsOf, frameOf, frameLength, burstOf}
 use Rattle.burst.proofs.FrameLaws.{bits-length, frame-length}
-
--- ---- how long
-
--- the start and two half-cycles a bit
-pub frame-of-bits : (m : Message) → frameLength m ≡ 4 + (bitCount m + bitCount m)
-frame-of-bits (Address h u) = refl
-frame-of-bits (Command h f) = refl
-frame-of-bits (Extended h u d c) = refl
 
 -- ---- the half-cycle at a place
 

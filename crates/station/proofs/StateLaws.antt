@@ -20,7 +20,7 @@ use Rattle.station.specs.Stations.{drawOk, heldOk, stationOk, heldSends,
 use Rattle.station.specs.declared.Held.{Held}
 use Rattle.station.specs.declared.Held.the-variants.{Empty, Holds}
 use Rattle.station.specs.declared.Station.{Station}
-use Rattle.station.proofs.HalfAt.{frame-of-bits}
+use Rattle.burst.proofs.Writing.{frame-of-bits}
 
 -- ---- idle
 

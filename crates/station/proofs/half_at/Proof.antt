@@ -7,7 +7,8 @@ use native.Mathlib.Omega.{arith}
 use lib.ListN.{getD}
 use Rattle.burst.specs.Frames.{bitsOf, pairsOf, frameOf, frameLength}
 use Rattle.burst.proofs.Writing.{count-at-most}
-use Rattle.station.proofs.HalfAt.{frame-of-bits, burst-first, burst-second}
+use Rattle.burst.proofs.Writing.{frame-of-bits}
+use Rattle.station.proofs.HalfAt.{burst-first, burst-second}
 use borrow.Author.Needs.{needs}
 use Rattle.station.proofs.half_at.Statement.{statement}
 use Rattle.station.proofs.half_at.Tie as tie

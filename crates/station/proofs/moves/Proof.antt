@@ -5,7 +5,7 @@ use native.Mathlib.Omega.{arith}
 use borrow.Author.Tests.{lt-ltb, le-ltb, eq-eqb, ne-eqb}
 use Rattle.burst.specs.Frames.{burstLength}
 use Rattle.station.specs.Stations.{moveOf}
-use Rattle.station.proofs.HalfAt.{frame-of-bits}
+use Rattle.burst.proofs.Writing.{frame-of-bits}
 use borrow.Author.Needs.{needs}
 use Rattle.station.proofs.moves.Statement.{statement}
 use Rattle.station.proofs.moves.Tie as tie
