@@ -2,7 +2,7 @@
 --
 --     both-equal, one-differs                      what the code's test of two pairs of numbers says of them
 --     paired, not-paired                           where both complements are right, and where one is not
---     unit-masked                                  the unit that the code takes out of b and c
+--     low-clear, low-masked, unit-masked           the bits of b that must be 0, and the unit, by the code's masks
 --     bright-read, dim-read, on-read, off-read     where the tests hold: the house and unit taken out of b and c make b and c again
 --     no-step, no-switch                           where one does not: each command would pass it
 use mathlib.Core.Path.{_≡_, refl, sym, ap, _∙_}
@@ -67,15 +67,42 @@ house-again b l = ap (λ (n : ℕ). n * 16) (nibble-of-house (b / 16) (omega ari
 house-fits : (b : ℕ) → b < 256 → leb (houseOf (b / 16)) 15 ≡ true
 house-fits b l = le-leb (houseOf (b / 16)) 15 (omega (arith, house-below (b / 16) (omega arith)))
 
--- the masks of bit 1, and of bits 2 and 0
+-- the masks of bit 1, of bit 2, of bits 2 and 0, and of bits 3, 1 and 0
 two : (n : ℕ) → bitAnd n 2 ≡ n / 2 % 2 * 2
 two n = and-high n 1 1
 
-five : (n : ℕ) → bitAnd n 5 ≡ n / 4 % 2 * 4 + n % 2
-five n =
+two-of-half : (n : ℕ) → bitAnd (n / 2) 2 ≡ n / 4 % 2 * 2
+two-of-half n =
     let quarter : n / 2 / 2 ≡ n / 4 = omega arith in
-    let high : bitAnd (n / 2) 2 ≡ n / 4 % 2 * 2 = two (n / 2) ∙ ap (λ (m : ℕ). m % 2 * 2) quarter in
-    omega (arith, and-step n 5, high)
+    two (n / 2) ∙ ap (λ (m : ℕ). m % 2 * 2) quarter
+
+four : (n : ℕ) → bitAnd n 4 ≡ n / 4 % 2 * 4
+four n = omega (arith, and-step n 4, two-of-half n)
+
+five : (n : ℕ) → bitAnd n 5 ≡ n / 4 % 2 * 4 + n % 2
+five n = omega (arith, and-step n 5, two-of-half n)
+
+eleven : (n : ℕ) → bitAnd n 11 ≡ n / 8 % 2 * 8 + n / 2 % 2 * 2 + n % 2
+eleven n =
+    let eighth : n / 2 / 4 ≡ n / 8 = omega arith in
+    let high : bitAnd (n / 2) 5 ≡ n / 8 % 2 * 4 + n / 2 % 2 = five (n / 2) ∙ ap (λ (m : ℕ). m % 2 * 4 + n / 2 % 2) eighth in
+    omega (arith, and-step n 11, high)
+
+-- the low four bits
+low-four : (b : ℕ) → b % 16 ≡ b / 8 % 2 * 8 + b / 4 % 2 * 4 + b / 2 % 2 * 2 + b % 2
+low-four b =
+    let e₃ : b % 16 / 8 % 2 ≡ b / 8 % 2 = omega arith in
+    let e₂ : b % 16 / 4 % 2 ≡ b / 4 % 2 = omega arith in
+    let e₁ : b % 16 / 2 % 2 ≡ b / 2 % 2 = omega arith in
+    let e₀ : b % 16 % 2 ≡ b % 2 = omega arith in
+    simp (e₃, e₂, e₁, e₀) at (sym (digits (b % 16) (omega arith)))
+
+-- b's bits 3, 1 and 0 are 0 where its low four bits have no other than bit 2
+pub low-clear : (b : ℕ) → bitAnd b 11 ≡ 0 → b % 16 ≡ b / 4 % 2 * 4
+low-clear b e = let m = eleven b in let l = low-four b in omega arith
+
+pub low-masked : (b : ℕ) → b % 16 ≡ b / 4 % 2 * 4 → bitAnd b 11 ≡ 0
+low-masked b e = let m = eleven b in let l = low-four b in omega arith
 
 -- c from its four bits, as it is from the bits of c / 8
 weigh : (c q f o t : ℕ) → c % 8 ≡ 0 → q * 8 + f * 4 + o * 2 + t ≡ c / 8 → q * 64 + t * 8 + o * 16 + f * 32 ≡ c
@@ -94,12 +121,12 @@ module _ (b c : ℕ) where
   unit-bits = bits (unitFrom b c) (b / 4 % 2) (c / 64 % 2) (c / 8 % 2) (c / 16 % 2) (bit (b / 4)) (bit (c / 64)) (bit (c / 8)) (bit (c / 16)) refl
 
   -- the unit as the code takes it out, by masks
-  pub unit-masked : b / 4 % 2 * 8 + bitAnd (c / 16) 5 + bitAnd (c / 4) 2 ≡ unitFrom b c
+  pub unit-masked : bitAnd b 4 * 2 + bitAnd (c / 16) 5 + bitAnd (c / 4) 2 ≡ unitFrom b c
   unfolding unitFrom
   unit-masked =
       let e₆ : c / 16 / 4 ≡ c / 64 = omega arith in
       let e₃ : c / 4 / 2 ≡ c / 8 = omega arith in
-      simp (five (c / 16), two (c / 4), e₆, e₃) (omega arith)
+      simp (four b, five (c / 16), two (c / 4), e₆, e₃) (omega arith)
 
   unit-again : c < 128 → c % 8 ≡ 0 → unitInC (unitFrom b c) + c / 32 % 2 * 32 ≡ c
   unit-again l z = simp (unit-bits .four, unit-bits .two, unit-bits .one) (bits-again c l z)

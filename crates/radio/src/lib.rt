@@ -143,12 +143,11 @@ fn switch_of(house: u8, b: u8, c: u8) -> RadioRead
     requires { ⌜ (house ≡ houseOf (b / 16)) × (c < 128) ⌝ }
     ensures { λ r. ⌜ answerOfRead r ≡ codeAnswer b c ⌝ }
 {
-    let eight = b / 4 % 2;
-    if (b % 16 != eight * 4) | (c % 8 != 0) {
+    if (b & 11 != 0) | (c % 8 != 0) {
         return RadioRead::RefusedCode;
     }
-    // In c / 16 the unit's 4 and 1 stand at their own places, and in c / 4 its 2.
-    let unit = eight * 8 + ((c / 16) & 5) + ((c / 4) & 2);
+    // b's bit 2 is the unit's 8; in c / 16 its 4 and 1 stand at their own places, and in c / 4 its 2.
+    let unit = (b & 4) * 2 + ((c / 16) & 5) + ((c / 4) & 2);
     if c / 32 % 2 == 0 {
         RadioRead::Command(RadioCommand::On {
             house: house,
