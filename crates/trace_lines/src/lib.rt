@@ -284,7 +284,7 @@ pub(crate) fn put_event(out: &mut [u8; SIZE], at: usize, number: u64, event: Eve
 }
 
 // Where a trace stands before any byte.
-pub fn begin() -> Progress
+pub(crate) fn begin() -> Progress
     ensures { λ p. ⌜ p ≡ atStart ⌝ }
 {
     Progress {
@@ -362,7 +362,7 @@ fn ended(p: Progress, taken: usize, length: usize) -> Traced
 
 // The trace of a piece of the input, into the buffer from its front on. It ends early where the trace stops, or where the buffer has
 // no room for a further line; the rest of the piece is then to be handed in again.
-pub fn trace(p: Progress, input: &[u8], out: &mut [u8; SIZE]) -> Traced
+pub(crate) fn trace(p: Progress, input: &[u8], out: &mut [u8; SIZE]) -> Traced
     ensures { λ t. ⌜ t ≡ tracedOf p (now (input .entry)) ⌝ }
     ensures { λ t. ⌜ now (out .exit) ≡ bufferAfter p (now (input .entry)) (now (out .entry)) ⌝ }
 {

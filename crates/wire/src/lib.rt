@@ -6,7 +6,6 @@ use message::codes::meaning;
 ghost use mathlib.Core.Path.{_≡_};
 ghost use Rattle.wire.specs.Messages.{messageFrom, listed, messageBytes};
 
-pub mod commands;
 pub mod receivers;
 
 // What five numbers say.

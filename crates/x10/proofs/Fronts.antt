@@ -14,7 +14,7 @@ use lib.Seq.{sets, sets-eq}
 use Rattle.message.specs.Choice.{pick}
 use Rattle.radio.specs.declared.RadioCommand.{RadioCommand}
 use Rattle.radio.specs.declared.RadioCommand.the-variants.{On, Off, Bright, Dim}
-use Rattle.wire.specs.Commands.{commandBytes}
+use Rattle.x10.specs.Commands.{commandBytes}
 use Rattle.x10.specs.Radio.{front}
 
 pub placed : (vs l : List ℕ) → length vs ≤ length l → sets l 0 vs ≡ front vs l

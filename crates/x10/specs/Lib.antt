@@ -1,4 +1,5 @@
 pub mod Packed
+pub mod Commands
 pub mod Bursts
 pub mod Radio
 pub mod Receivers

@@ -6,9 +6,9 @@ use lib.ListN.{length, drop}
 use Rattle.message.specs.Choice.{pick}
 use Rattle.message.specs.Numbers.{NONE, MESSAGE, SHORT}
 use Rattle.radio.specs.Answers.{writeAnswer, readAnswer}
-use Rattle.wire.specs.Commands.{commandBytes}
-use Rattle.wire.specs.declared.commands.CommandRead.{CommandRead}
-use Rattle.wire.specs.declared.commands.CommandRead.the-variants.{Command as Says, NoCommand}
+use Rattle.x10.specs.Commands.{commandBytes}
+use Rattle.x10.specs.declared.commands.CommandRead.{CommandRead}
+use Rattle.x10.specs.declared.commands.CommandRead.the-variants.{Command as Says, NoCommand}
 use Rattle.x10.specs.Packed.{packed}
 
 -- bytes at a buffer's front; "bytes beyond stay"

@@ -1,5 +1,8 @@
 // The routines that programs in C and Rust link: over numbers and lent bytes, each with one number as its answer, which is the
 // count times 256 plus the number given back. Every number and every slice is taken; a refusal changes nothing that was lent.
+use crate::commands::CommandRead;
+use crate::commands::command_from;
+use crate::commands::three_of;
 use apply::ApplyAnswer;
 use apply::apply;
 use bench_run::BenchRunAnswer;
@@ -18,9 +21,6 @@ use routes::RadioRouteAnswer;
 use routes::heed;
 use routes::radio_route;
 use wire::MessageRead;
-use wire::commands::CommandRead;
-use wire::commands::command_from;
-use wire::commands::three_of;
 use wire::message_from;
 use wire::receivers::ReceiverRead;
 use wire::receivers::RunAnswer;
@@ -40,7 +40,7 @@ ghost use Rattle.bench_run.specs.BenchRuns.{benchMeans, lent, linesAfter, marks
 ghost use Rattle.routes.specs.Routes.{radioMeans, radioTable, mainsMeans};
 ghost use Rattle.receiver.specs.Receivers.{freshReceiver};
 ghost use Rattle.wire.specs.Messages.{messageFrom};
-ghost use Rattle.wire.specs.Commands.{commandFrom, commandBytes};
+ghost use Rattle.x10.specs.Commands.{commandFrom, commandBytes};
 ghost use Rattle.wire.specs.Receivers.{receiverFrom, stateAfter};
 ghost use Rattle.x10.specs.Packed.{packed};
 ghost use Rattle.x10.specs.Bursts.{burstGiven, burstLeft};
@@ -48,6 +48,8 @@ ghost use Rattle.x10.specs.Radio.{writeGiven, writeLeft, readGiven, read
 ghost use Rattle.x10.specs.Receivers.{freshGiven, receiveGiven, receiverLeft, eventsLeft};
 ghost use Rattle.x10.specs.Benches.{benchGiven};
 ghost use Rattle.x10.specs.Tables.{applyGiven, applyLeft, radioGiven, stepRefusal, mainsGiven, mainsTableLeft, mainsStateLeft, mainsEventLeft};
+
+mod commands;
 
 // A number given back and a count, as one number.
 fn pack(number: u8, count: usize) -> u64

@@ -1,7 +1,7 @@
 // A radio command as numbers and bytes.
 use radio::RadioCommand;
 ghost use mathlib.Core.Path.{_≡_};
-ghost use Rattle.wire.specs.Commands.{commandFrom, threeListed, commandBytes};
+ghost use Rattle.x10.specs.Commands.{commandFrom, threeListed, commandBytes};
 
 // What three numbers say.
 pub enum CommandRead {
@@ -17,7 +17,7 @@ pub struct Three {
 }
 
 // The radio command that three numbers say. A house or a unit above 15 is not judged here.
-pub fn command_from(command: u8, house: u8, unit: u8) -> CommandRead
+pub(crate) fn command_from(command: u8, house: u8, unit: u8) -> CommandRead
     ensures { λ r. ⌜ r ≡ commandFrom command house unit ⌝ }
 {
     match command {
@@ -36,7 +36,7 @@ pub fn command_from(command: u8, house: u8, unit: u8) -> CommandRead
 }
 
 // The three numbers of a radio command.
-pub fn three_of(command: RadioCommand) -> Three
+pub(crate) fn three_of(command: RadioCommand) -> Three
     ensures { λ r. ⌜ threeListed r ≡ commandBytes command ⌝ }
 {
     match command {

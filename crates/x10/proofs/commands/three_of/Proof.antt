@@ -1,7 +1,7 @@
 -- `three_of` meets its contract: each arm has the numbers of its command.
 use borrow.Author.Needs.{needs}
-use Rattle.wire.proofs.commands.three_of.Statement.{statement}
-use Rattle.wire.proofs.commands.three_of.Tie as tie
+use Rattle.x10.proofs.commands.three_of.Statement.{statement}
+use Rattle.x10.proofs.commands.three_of.Tie as tie
 
 enum-known-command : tie.Need-enum-known-command
 enum-known-command c = search needs

@@ -1,8 +1,8 @@
 -- `command_from` meets its contract: each arm is the definition's case for its number.
 use borrow.Author.Tests.{ne-eqb}
-use Rattle.wire.specs.Commands.{commandFrom}
-use Rattle.wire.proofs.commands.command_from.Statement.{statement}
-use Rattle.wire.proofs.commands.command_from.Tie as tie
+use Rattle.x10.specs.Commands.{commandFrom}
+use Rattle.x10.proofs.commands.command_from.Statement.{statement}
+use Rattle.x10.proofs.commands.command_from.Tie as tie
 
 returns : tie.Need-returns
 unfolding commandFrom

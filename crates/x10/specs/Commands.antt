@@ -5,9 +5,9 @@ use lib.Dec.{eqb}
 use Rattle.message.specs.Choice.{pick}
 use Rattle.radio.specs.declared.RadioCommand.{RadioCommand}
 use Rattle.radio.specs.declared.RadioCommand.the-variants.{On, Off, Bright, Dim}
-use Rattle.wire.specs.declared.commands.CommandRead.{CommandRead}
-use Rattle.wire.specs.declared.commands.CommandRead.the-variants.{Command as Says, NoCommand}
-use Rattle.wire.specs.declared.commands.Three.{Three}
+use Rattle.x10.specs.declared.commands.CommandRead.{CommandRead}
+use Rattle.x10.specs.declared.commands.CommandRead.the-variants.{Command as Says, NoCommand}
+use Rattle.x10.specs.declared.commands.Three.{Three}
 
 -- the command that three numbers say; a number above 3 says none. The unit is not looked at for bright and dim.
 unfoldable pub commandFrom : ℕ → ℕ → ℕ → CommandRead
