@@ -1,7 +1,9 @@
 //! X-10 messages, frames, the receiver, stations, radio bytes and the module table in plain Rust.
 //!
-//! Written from the scope paper alone, so that it can be held against the proved library: where
-//! the two differ, one of them misreads the paper.
+//! First written from the scope paper, without the Rattle code, so that it can be held against the
+//! proved library: where the two differ, one of them misreads the paper. Three later changes were
+//! made with the Rattle code known: the array of 124 for a burst, the receiver's test at each
+//! half-cycle, and the awaited half-cycle that goes to the hunt.
 //!
 //! It judges what the library judges, as often: a table at each call, a receiver at each half-cycle,
 //! every station and draw at each call of a bench. For a reader of the times, what it does otherwise:
