@@ -14,7 +14,7 @@ use borrow.Author.Tests.{eq-eqb, eqb-true, ltb-true}
 use lib.Dec.{eqb, ltb}
 use lib.ListN.{length, getD, take, drop, take-append-drop, List·getD-append}
 use lib.Seq.{take-take, take-append-le, take-append-seam}
-use Rattle.message.specs.Choice.{pick}
+use Rattle.ground.specs.Choice.{pick}
 use Rattle.message.specs.Messages.{messageOk, BytesOk}
 use Rattle.message.specs.declared.Message.{Message}
 use Rattle.burst.specs.Frames.{frameOf, frameLength, burstOf}

@@ -15,7 +15,7 @@ use native.Mathlib.Omega.{arith}
 use lib.Dec.{eqb}
 use lib.ListN.{length, getD, take}
 use lib.Seq.{take-suc}
-use Rattle.message.specs.Choice.{pick}
+use Rattle.ground.specs.Choice.{pick}
 use Rattle.message.specs.Messages.{messageOk}
 use Rattle.message.specs.declared.Message.{Message}
 use Rattle.burst.specs.Frames.{burstOf, burstLength}

@@ -6,7 +6,7 @@ use mathlib.Core.Logic.{_↔_}
 use mathlib.Core.Bool.{true, false}
 use mathlib.Core.List.{List, [], _∷_, reverse}
 use lib.ListN.{length, getD, take, drop}
-use Rattle.message.specs.Choice.{pick}
+use Rattle.ground.specs.Choice.{pick}
 use Rattle.message.specs.Numbers.{NONE, DRAW}
 use Rattle.message.specs.Messages.{BytesOk}
 use Rattle.message.specs.declared.Message.{Message}

@@ -13,7 +13,7 @@ use native.Mathlib.Omega.{arith}
 use borrow.Author.Tests.{eq-eqb, lt-ltb, leb-true}
 use lib.Dec.{eqb, leb}
 use lib.ListN.{length}
-use Rattle.message.specs.Choice.{pick}
+use Rattle.ground.specs.Choice.{pick}
 use Rattle.message.specs.Messages.{messageOk}
 use Rattle.message.specs.Numbers.{Answer, NONE, NOT-CARRIED}
 use Rattle.message.specs.declared.Message.{Message}

@@ -4,7 +4,7 @@ use mathlib.Core.Path.{_≡_}
 use mathlib.Core.List.{List}
 use lib.Dec.{eqb}
 use lib.ListN.{length}
-use Rattle.message.specs.Choice.{pick}
+use Rattle.ground.specs.Choice.{pick}
 use Rattle.message.specs.Messages.{messageOk}
 use Rattle.message.specs.Numbers.{Answer, answered, refusal, NONE, TABLE, MESSAGE, RECORD, NOT-CARRIED}
 use Rattle.message.specs.declared.Message.{Message}

@@ -14,7 +14,7 @@ use native.Mathlib.Omega.{arith}
 use lib.Pow.{pow-mono}
 use lib.ListN.{length, getD, set, take, drop, length-drop, length-set, length-map}
 use lib.Seq.{sets, sets-eq, drop-cons, drop-drop}
-use Rattle.message.specs.Choice.{pick}
+use Rattle.ground.specs.Choice.{pick}
 use Rattle.station.specs.declared.Station.{Station}
 use Rattle.bench.specs.Benches.{turnAll, benchOf}
 use Rattle.bench.specs.declared.BenchTurn.{BenchTurn}

@@ -12,7 +12,7 @@ use wire::message_from;
 ghost use mathlib.Core.Path.{_≡_};
 ghost use Prim.Native.Nat.{_+_, _*_, _/_, _≤_};
 ghost use lib.ListN.{length, take, drop};
-ghost use Rattle.message.specs.Choice.{pick};
+ghost use Rattle.ground.specs.Choice.{pick};
 ghost use Rattle.bench.specs.Benches.{drawsOk};
 ghost use Rattle.wire.specs.Messages.{messageIn};
 ghost use Rattle.bench_run.specs.BenchRuns.{saysOk, allSay, loadedBy, slotsFrom, lineByte, counts, maskOf, Called, benchMeans, lent, runAnswer, linesAfter, marksAfter};

@@ -11,7 +11,7 @@ use mathlib.Core.List.{List, [], _∷_}
 use Prim.Native.Nat.{ℕ, _<_}
 use borrow.Author.Tests.{eqb-true, ltb-true}
 use lib.Dec.{eqb, ltb, lit<}
-use Rattle.message.specs.Text.{bytesOf, bytesFrom}
+use Rattle.ground.specs.Text.{bytesOf, bytesFrom}
 use Rattle.message.specs.Codes.{lineCodes, placeIn, codeOf, numberOf, functionNames, nameAt, functionCode, meanings, meaningOf}
 use Rattle.message.specs.declared.Function.{Function}
 use Rattle.message.specs.declared.Function.the-variants.{AllUnitsOff, AllLightsOn, On, Off, Dim, Bright, AllLightsOff, HailRequest, HailAcknowledge, StatusOn, StatusOff, StatusRequest}

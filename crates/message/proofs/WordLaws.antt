@@ -10,7 +10,7 @@ use Prim.Native.Nat.{ℕ, _/_, _%_, _^_, _≤_, _<_}
 use native.Mathlib.Omega.{arith}
 use borrow.Author.Tests.{leb-true}
 use lib.Dec.{eqb, leb}
-use Rattle.message.specs.Choice.{pick}
+use Rattle.ground.specs.Choice.{pick}
 use Rattle.message.specs.Codes.{codeOf, functionCode, meanings, meaningOf}
 use Rattle.message.specs.Messages.{messageOk, BytesOk}
 use Rattle.message.specs.Words.{nine, wordOf, bitCount, standardOf, extendedOf}

@@ -1,7 +1,7 @@
 -- The bits that a message's frame carries, as one number, highest bit first (01, 'Frames and bursts').
 use Prim.Native.Nat.{ℕ, _+_, _*_, _/_, _%_}
 use lib.Dec.{eqb}
-use Rattle.message.specs.Choice.{pick}
+use Rattle.ground.specs.Choice.{pick}
 use Rattle.message.specs.Codes.{codeOf, numberOf, functionCode, meaningOf}
 use Rattle.message.specs.declared.Message.{Message}
 use Rattle.message.specs.declared.Message.the-variants.{Address, Function as Command, Extended}

@@ -13,7 +13,7 @@ use native.Mathlib.Omega.{arith}
 use borrow.Author.Tests.{eq-eqb, ne-eqb, eqb-true}
 use lib.Dec.{eqb, leb}
 use lib.ListN.{length, getD, length-map, List·getD-map}
-use Rattle.message.specs.Choice.{pick}
+use Rattle.ground.specs.Choice.{pick}
 use Rattle.message.specs.Numbers.{NONE, COMPLEMENT}
 use Rattle.message.specs.Messages.{messageOk}
 use Rattle.message.proofs.Tables.{everyFrom, getD-any}

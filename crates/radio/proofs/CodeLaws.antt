@@ -12,7 +12,7 @@ use Prim.Native.Nat.{ℕ, _+_, _*_, _/_, _%_, _≤_, _<_}
 use native.Mathlib.Omega.{arith}
 use borrow.Author.Tests.{eqb-true, ltb-true, leb-true, ne-eqb}
 use lib.Dec.{eqb, ltb, leb, lit<}
-use Rattle.message.specs.Choice.{pick}
+use Rattle.ground.specs.Choice.{pick}
 use Rattle.message.specs.Codes.{placeIn}
 use Rattle.message.proofs.Tables.{every-at, ReadsBack, read-back, one-to-one, entry-below}
 use Rattle.radio.specs.Codes.{houseNibbles, nibbleOf, houseOf, houseInB, unitInB, unitInC, byteB, byteC, commandOk, sixteen}

@@ -13,7 +13,7 @@ use native.Mathlib.Decide.{decLe, ℕ-discrete}
 use borrow.Author.Tests.{leb-true, eqb-true, le-leb, lt-leb, eq-eqb, ne-eqb}
 use lib.Dec.{leb, eqb, lit<, lit≤}
 use lib.Pow.{field, mod-mod-pow, shr-shr}
-use Rattle.message.specs.Choice.{pick}
+use Rattle.ground.specs.Choice.{pick}
 use Rattle.message.specs.Numbers.{NONE, HALF, STATE, PAIR, UNSUPPORTED}
 use Rattle.message.specs.Codes.{numberOf, meaningOf, meanings}
 use Rattle.message.specs.Messages.{messageOk}

@@ -2,7 +2,7 @@
 use Prim.Native.Nat.{ℕ, _+_, _-_, _*_, _/_, _%_, _^_}
 use mathlib.Core.Bool.{Bool, true, false, _&&_, _||_}
 use lib.Dec.{eqb, leb}
-use Rattle.message.specs.Choice.{pick}
+use Rattle.ground.specs.Choice.{pick}
 use Rattle.message.specs.Numbers.{NONE, HALF, STATE, PAIR, UNSUPPORTED}
 use Rattle.message.specs.Messages.{messageOk}
 use Rattle.message.specs.Words.{wordOf, bitCount, standardOf, extendedOf}

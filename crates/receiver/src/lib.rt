@@ -9,7 +9,7 @@ use message::word::word_of;
 ghost use mathlib.Core.Path.{_≡_};
 ghost use Prim.Native.Nat.{_≤_};
 ghost use lib.Dec.{eqb, leb};
-ghost use Rattle.message.specs.Choice.{pick};
+ghost use Rattle.ground.specs.Choice.{pick};
 ghost use Rattle.message.specs.Words.{standardOf, extendedOf};
 ghost use Rattle.message.specs.declared.Reading.the-variants.{Whole, Extended};
 ghost use Rattle.receiver.specs.Receivers.{eventNumber, freshReceiver, pairsOk, givenOk, receiverOk, shifted, hunting, says, huntOf, awaitOf, isRepeat, completeOf, pairOf, readOf, takesOf, stepOf, stepNumber};

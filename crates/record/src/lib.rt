@@ -3,7 +3,7 @@
 use message::Function;
 ghost use mathlib.Core.Path.{_≡_};
 ghost use Prim.Native.Nat.{_<_};
-ghost use Rattle.message.specs.Choice.{pick};
+ghost use Rattle.ground.specs.Choice.{pick};
 ghost use Rattle.record.specs.Layout.{bit, preset};
 ghost use Rattle.record.specs.ModuleTable.{levelOk, presetOk, recordOk};
 

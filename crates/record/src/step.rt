@@ -8,7 +8,7 @@ use message::Function;
 ghost use mathlib.Core.Path.{_≡_};
 ghost use mathlib.Core.Bool.{Bool};
 ghost use Prim.Native.Nat.{_≤_};
-ghost use Rattle.message.specs.Choice.{pick};
+ghost use Rattle.ground.specs.Choice.{pick};
 ghost use Rattle.record.specs.Layout.{maskOf, withLevel, withAddressed};
 ghost use Rattle.record.specs.ModuleTable.{relevel, lit, dimmed, brightened, obeyed, levelB, joined, left, acted, stepRecord};
 

@@ -8,7 +8,7 @@ use mathlib.Core.List.{List}
 use Prim.Native.Nat.{ℕ, zero, suc, _+_, _/_, _%_, _<_}
 use native.Mathlib.Omega.{arith}
 use lib.Dec.{eqb}
-use Rattle.message.specs.Choice.{pick}
+use Rattle.ground.specs.Choice.{pick}
 use Rattle.message.specs.Numbers.{NONE}
 use Rattle.message.specs.declared.Message.the-variants.{Address as Calls}
 use Rattle.record.specs.Layout.{RECORDS, UNITS, heardAt, recordAt, present}

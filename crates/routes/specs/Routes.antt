@@ -4,7 +4,7 @@ use Prim.Native.Nat.{ℕ}
 use mathlib.Core.List.{List, [], _∷_, flatMap}
 use lib.Dec.{eqb}
 use lib.ListN.{length}
-use Rattle.message.specs.Choice.{pick}
+use Rattle.ground.specs.Choice.{pick}
 use Rattle.message.specs.Numbers.{Answer, answered, refusal, NONE, TABLE, RECORD, HALF, STATE, RF-LENGTH, COMPLEMENT, CODE}
 use Rattle.message.specs.declared.Message.{Message}
 use Rattle.radio.specs.Answers.{readAnswer, messagesOf}

@@ -12,7 +12,7 @@ use native.Mathlib.Omega.{arith}
 use lib.Dec.{eqb}
 use lib.ListN.{length, getD, List·getD-append}
 use lib.Seq.{getD-append-add}
-use Rattle.message.specs.Choice.{pick}
+use Rattle.ground.specs.Choice.{pick}
 use Rattle.message.specs.declared.Message.{Message}
 use Rattle.burst.specs.Frames.{bitsOf, pairsOf, frameOf, frameLength, burstOf}
 use Rattle.burst.proofs.FrameLaws.{bits-length, frame-length}

@@ -23,7 +23,7 @@ use borrow.Author.Tests.{eq-eqb}
 use lib.Dec.{eqb}
 use lib.ListN.{length, getD, set, length-set}
 use lib.Seq.{sets, length-sets, getD-set-same, getD-set-other}
-use Rattle.message.specs.Choice.{pick}
+use Rattle.ground.specs.Choice.{pick}
 use Rattle.record.specs.Layout.{RECORD-BYTES, UNITS, HOUSES, RECORDS, HEARD-AT, TABLE-BYTES, recordAt, bytesOf, put}
 use Rattle.record.specs.ModuleTable.{stepRecord, stepHouse, runAct, changed}
 use Rattle.table.specs.Lent.{Stepped, inTable, ranIn}

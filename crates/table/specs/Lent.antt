@@ -6,7 +6,7 @@ use mathlib.Core.Bool.{Bool, _&&_}
 use mathlib.Core.List.{List}
 use lib.Dec.{eqb, ltb}
 use lib.ListN.{length}
-use Rattle.message.specs.Choice.{pick}
+use Rattle.ground.specs.Choice.{pick}
 use Rattle.record.specs.Layout.{TABLE-BYTES, HOUSES, recordAt, put}
 use Rattle.record.specs.ModuleTable.{stepRecord, runAct}
 use Rattle.record.specs.declared.Act.{Act}

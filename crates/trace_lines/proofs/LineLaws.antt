@@ -16,7 +16,7 @@ use native.Mathlib.Decide.{decLt}
 use borrow.Author.Tests.{lt-ltb, le-ltb, leb-true, ne-eqb, not-true}
 use lib.Dec.{eqb, leb}
 use lib.ListN.{length, replicate, length-append}
-use Rattle.message.specs.Text.{bytesOf, bytesFrom}
+use Rattle.ground.specs.Text.{bytesOf, bytesFrom}
 use Rattle.message.specs.Codes.{functionNames, functionCode, nameAt, padded, paddedName}
 use Rattle.message.specs.declared.Message.{Message}
 use Rattle.message.specs.declared.Message.the-variants.{Address, Function as Command, Extended}

@@ -20,7 +20,7 @@ use borrow.Author.Tests.{le-leb, lt-leb}
 use lib.Dec.{leb, lit≤}
 use lib.ListN.{length, take, drop, getD, length-append, take-append-drop}
 use lib.Seq.{sets, take-suc, drop-cons}
-use Rattle.message.specs.Choice.{pick}
+use Rattle.ground.specs.Choice.{pick}
 use Rattle.receiver.specs.Receivers.{stepOf}
 use Rattle.trace_lines.specs.Lines.{lineText, lineOf, Put, LAST}
 use Rattle.trace_lines.specs.Trace.{isHalf, isSkipped, printed, halfAfter, byteAfter, traceFrom, progressAfter, takenFrom, pieceText, tracedOf, bufferAfter, Follows}

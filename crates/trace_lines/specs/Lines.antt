@@ -5,8 +5,8 @@ use mathlib.Core.List.{List, [], _∷_, _++_}
 use lib.Dec.{leb, ltb, eqb}
 use lib.ListN.{length}
 use lib.Seq.{sets}
-use Rattle.message.specs.Choice.{pick}
-use Rattle.message.specs.Text.{bytesOf}
+use Rattle.ground.specs.Choice.{pick}
+use Rattle.ground.specs.Text.{bytesOf}
 use Rattle.message.specs.Codes.{functionCode, nameAt}
 use Rattle.message.specs.declared.Message.{Message}
 use Rattle.message.specs.declared.Message.the-variants.{Address, Function as Command, Extended}

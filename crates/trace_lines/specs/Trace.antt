@@ -6,7 +6,7 @@ use mathlib.Core.List.{List, [], _∷_, _++_}
 use lib.Dec.{leb, eqb}
 use lib.ListN.{length, take}
 use lib.Seq.{sets}
-use Rattle.message.specs.Choice.{pick}
+use Rattle.ground.specs.Choice.{pick}
 use Rattle.receiver.specs.Receivers.{freshReceiver, stepOf}
 use Rattle.trace_lines.specs.Lines.{lineText, lineOf, LAST}
 use Rattle.trace_lines.specs.declared.Line.the-variants.{BadByte}

@@ -20,7 +20,7 @@ use borrow.Author.Tests.{eq-eqb, le-leb, lt-leb}
 use lib.Dec.{leb}
 use lib.ListN.{length, getD, set, drop, length-set, length-append, drop-of-length-le}
 use lib.Seq.{sets, sets-eq, length-sets, drop-cons}
-use Rattle.message.specs.Choice.{pick}
+use Rattle.ground.specs.Choice.{pick}
 use Rattle.message.specs.declared.Message.{Message}
 use Rattle.message.specs.declared.Message.the-variants.{Address, Function as Command, Extended}
 use Rattle.receiver.specs.Receivers.{stepOf, says}

@@ -3,7 +3,7 @@ use Prim.Native.Nat.{ℕ}
 use mathlib.Core.List.{List, [], _∷_}
 use lib.Dec.{eqb}
 use lib.ListN.{getD}
-use Rattle.message.specs.Choice.{pick}
+use Rattle.ground.specs.Choice.{pick}
 use Rattle.message.specs.Codes.{functionCode, meaningOf}
 use Rattle.message.specs.declared.Meaning.{Meaning}
 use Rattle.message.specs.declared.Meaning.the-variants.{Function as Carries, Extended as Longer, Unsupported}

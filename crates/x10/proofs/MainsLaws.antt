@@ -10,7 +10,7 @@ use Prim.Native.Nat.{ℕ, _≤_, _<_}
 use borrow.Author.Tests.{eq-eqb, ne-eqb, le-leb, lt-leb}
 use lib.Dec.{eqb, leb}
 use lib.ListN.{length}
-use Rattle.message.specs.Choice.{pick}
+use Rattle.ground.specs.Choice.{pick}
 use Rattle.message.specs.Numbers.{Answer, NONE, HALF, STATE, SHORT}
 use Rattle.receiver.specs.Receivers.{stepOf}
 use Rattle.receiver.specs.declared.Receiver.{Receiver}

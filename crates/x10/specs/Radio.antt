@@ -3,7 +3,7 @@ use Prim.Native.Nat.{ℕ}
 use mathlib.Core.List.{List, _++_, flatMap}
 use lib.Dec.{eqb, leb}
 use lib.ListN.{length, drop}
-use Rattle.message.specs.Choice.{pick}
+use Rattle.ground.specs.Choice.{pick}
 use Rattle.message.specs.Numbers.{NONE, MESSAGE, SHORT}
 use Rattle.radio.specs.Answers.{writeAnswer, readAnswer}
 use Rattle.x10.specs.Commands.{commandBytes}

@@ -3,7 +3,7 @@ use Prim.Native.Nat.{ℕ, _*_}
 use mathlib.Core.List.{List}
 use lib.Dec.{eqb, leb}
 use lib.ListN.{length}
-use Rattle.message.specs.Choice.{pick}
+use Rattle.ground.specs.Choice.{pick}
 use Rattle.message.specs.Numbers.{NONE, STATE, SHORT}
 use Rattle.receiver.specs.Hearing.{receiverAfter}
 use Rattle.wire.specs.Receivers.{RECEIVER-BYTES, stateAfter, eventsAfter}

@@ -3,7 +3,7 @@ use Prim.Native.Nat.{ℕ}
 use mathlib.Core.List.{List}
 use lib.Dec.{eqb, leb}
 use lib.ListN.{length}
-use Rattle.message.specs.Choice.{pick}
+use Rattle.ground.specs.Choice.{pick}
 use Rattle.message.specs.Numbers.{NONE, TABLE, MESSAGE, HALF, STATE, SHORT}
 use Rattle.receiver.specs.Receivers.{stepOf}
 use Rattle.receiver.specs.declared.Event.{Event}

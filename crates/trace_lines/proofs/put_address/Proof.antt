@@ -1,6 +1,6 @@
 -- `put_address` meets its contract: the kind, the letter and the unit, one after the other.
 use native.Mathlib.Omega.{arith}
-use Rattle.message.specs.Text.{bytesOf, bytesFrom}
+use Rattle.ground.specs.Text.{bytesOf, bytesFrom}
 use Rattle.trace_lines.specs.Lines.{trimmed, messageFields}
 use Rattle.trace_lines.proofs.PutLaws.{put-then}
 use borrow.Author.Needs.{needs}

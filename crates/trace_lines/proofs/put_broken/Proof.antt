@@ -1,6 +1,6 @@
 -- `put_broken` meets its contract: the kind, and then the number.
 use native.Mathlib.Omega.{arith}
-use Rattle.message.specs.Text.{bytesOf, bytesFrom}
+use Rattle.ground.specs.Text.{bytesOf, bytesFrom}
 use Rattle.trace_lines.specs.Lines.{trimmed}
 use Rattle.trace_lines.proofs.PutLaws.{put-then}
 use borrow.Author.Needs.{needs}

@@ -1,7 +1,7 @@
 -- `put_extended` meets its contract: the kind, the letter, the unit and the two bytes, one after the other.
 use Prim.Native.Nat.{_+_}
 use native.Mathlib.Omega.{arith}
-use Rattle.message.specs.Text.{bytesOf, bytesFrom}
+use Rattle.ground.specs.Text.{bytesOf, bytesFrom}
 use Rattle.trace_lines.specs.Lines.{trimmed, messageFields}
 use Rattle.trace_lines.proofs.PutLaws.{put-then}
 use Rattle.trace_lines.proofs.LineLaws.{digits-at-most}

@@ -1,5 +1,5 @@
 -- `put_fields` meets its contract: in each arm the line is the one that the pattern names.
-use Rattle.message.specs.Text.{bytesOf, bytesFrom}
+use Rattle.ground.specs.Text.{bytesOf, bytesFrom}
 use Rattle.trace_lines.specs.Lines.{trimmed, fieldsOf}
 use borrow.Author.Needs.{needs}
 use Rattle.trace_lines.proofs.put_fields.Statement.{statement}

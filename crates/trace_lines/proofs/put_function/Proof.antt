@@ -6,7 +6,7 @@ use mathlib.Core.List.{List}
 use Rattle.message.specs.Codes.{functionCode, paddedName}
 use Rattle.message.proofs.CodeLaws.{function-code-below}
 use native.Mathlib.Omega.{arith}
-use Rattle.message.specs.Text.{bytesOf, bytesFrom}
+use Rattle.ground.specs.Text.{bytesOf, bytesFrom}
 use Rattle.trace_lines.specs.Lines.{trimmed, field, messageFields}
 use Rattle.trace_lines.proofs.PutLaws.{put-then, put-as}
 use Rattle.trace_lines.proofs.LineLaws.{trimmed-name}

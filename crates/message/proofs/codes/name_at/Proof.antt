@@ -3,7 +3,7 @@ use mathlib.Core.Path.{_∙_, sym, ap}
 use mathlib.Core.List.{[], map}
 use borrow.Author.Needs.{needs}
 use lib.ListN.{List·getD-eq-default, List·getD-map}
-use Rattle.message.specs.Text.{bytesOf, bytesFrom}
+use Rattle.ground.specs.Text.{bytesOf, bytesFrom}
 use Rattle.message.specs.Codes.{functionNames, nameAt, padded, paddedName}
 use Rattle.message.proofs.Tables.{getD-any}
 use Rattle.message.proofs.codes.name_at.Statement.{statement}

@@ -1,0 +1,58 @@
+// What every routine shares: why it refuses, the number that is given back for it, and an answer that counts.
+ghost use mathlib.Core.Path.{_≡_};
+ghost use Rattle.ground.specs.Refusals.{refusalNumber};
+
+// Why a routine refuses, in the order of the numbers.
+pub enum Refusal {
+    // A table's length.
+    Table,
+    // A house or unit above 15, or numbers that make no message.
+    Message,
+    // A table that breaks a rule.
+    Record,
+    // A message that tables do not carry.
+    NotCarried,
+    // A half-cycle that is not 0 or 1.
+    Half,
+    // A station, a receiver or a bench in a state that there is not.
+    State,
+    // A draw that is not 8, 9 or 10.
+    Draw,
+    // Loading a station that holds a message.
+    Busy,
+    // A lent buffer without room.
+    Short,
+    // Radio bytes: not four, a pair that is not complementary, none of the 544.
+    RfLength,
+    Complement,
+    Code,
+    // Sent 1, heard 0.
+    Fault,
+}
+
+// What a routine answers that counts.
+pub enum CountAnswer {
+    Done(usize),
+    Refused(Refusal),
+}
+
+// The number that is given back for a refusal.
+pub fn refusal_number(why: Refusal) -> u8
+    ensures { λ r. ⌜ r ≡ refusalNumber why ⌝ }
+{
+    match why {
+        Refusal::Table => 1,
+        Refusal::Message => 2,
+        Refusal::Record => 3,
+        Refusal::NotCarried => 4,
+        Refusal::Half => 5,
+        Refusal::State => 6,
+        Refusal::Draw => 7,
+        Refusal::Busy => 8,
+        Refusal::Short => 9,
+        Refusal::RfLength => 12,
+        Refusal::Complement => 13,
+        Refusal::Code => 14,
+        Refusal::Fault => 15,
+    }
+}
