@@ -15,8 +15,8 @@ use Rattle.ground.specs.Text.{bytesOf, bytesFrom}
 use Rattle.message.specs.Codes.{lineCodes, placeIn, codeOf, numberOf, functionNames, nameAt, functionCode, meanings, meaningOf}
 use Rattle.message.specs.declared.Function.{Function}
 use Rattle.message.specs.declared.Function.the-variants.{AllUnitsOff, AllLightsOn, On, Off, Dim, Bright, AllLightsOff, HailRequest, HailAcknowledge, StatusOn, StatusOff, StatusRequest}
-use Rattle.message.specs.declared.Meaning.{Meaning}
-use Rattle.message.specs.declared.Meaning.the-variants.{Function as Carries, Extended, Unsupported}
+use Rattle.message.specs.declared.codes.Meaning.{Meaning}
+use Rattle.message.specs.declared.codes.Meaning.the-variants.{Function as Carries, Extended, Unsupported}
 use Rattle.message.proofs.Tables.{everyFrom, every-at, ReadsBack, read-back, one-to-one, entry-below}
 
 -- ---- the line codes

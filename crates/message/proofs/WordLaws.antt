@@ -17,8 +17,8 @@ use Rattle.message.specs.Words.{nine, wordOf, bitCount, standardOf, exte
 use Rattle.message.specs.declared.Function.{Function}
 use Rattle.message.specs.declared.Message.{Message}
 use Rattle.message.specs.declared.Message.the-variants.{Address, Function as Command, Extended}
-use Rattle.message.specs.declared.Reading.{Reading}
-use Rattle.message.specs.declared.Reading.the-variants.{Whole, Extended as Begun}
+use Rattle.message.specs.declared.word.Reading.{Reading}
+use Rattle.message.specs.declared.word.Reading.the-variants.{Whole, Extended as Begun}
 use Rattle.message.proofs.CodeLaws.{code-below, number-of-code, meaning-of-function, function-code-below}
 
 -- the parts of nine bits

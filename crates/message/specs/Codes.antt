@@ -1,15 +1,20 @@
 -- Code numbers (01, 'Code numbers'; XTC798, the tables of house codes, unit codes and functions).
-use Prim.Native.Nat.{ℕ, zero, suc, _-_}
-use mathlib.Core.Bool.{Bool}
+use Prim.Native.Nat.{ℕ, zero, suc, _-_, _<_}
+use mathlib.Core.Path.{_≡_}
+use mathlib.Core.Bool.{Bool, true, false}
 use mathlib.Core.List.{List, [], _∷_, _++_}
 use lib.Dec.{eqb}
 use lib.ListN.{length, getD, replicate}
 use Rattle.ground.specs.Choice.{pick}
 use Rattle.ground.specs.Text.{bytesOf}
+use Rattle.ground.specs.Refusals.{Report, reports, refuses, Cause, unless}
+use Rattle.ground.specs.declared.Refusal.the-variants as refusal
 use Rattle.message.specs.declared.Function.{Function}
 use Rattle.message.specs.declared.Function.the-variants.{AllUnitsOff, AllLightsOn, On, Off, Dim, Bright, AllLightsOff, HailRequest, HailAcknowledge, StatusOn, StatusOff, StatusRequest}
-use Rattle.message.specs.declared.Meaning.{Meaning}
-use Rattle.message.specs.declared.Meaning.the-variants.{Function as Carries, Extended, Unsupported}
+use Rattle.message.specs.declared.codes.Meaning.{Meaning}
+use Rattle.message.specs.declared.codes.Meaning.the-variants.{Function as Carries, Extended, Unsupported}
+use Rattle.message.specs.declared.codes.FunctionRead.{FunctionRead}
+use Rattle.message.specs.declared.codes.FunctionRead.the-variants.{Function as Is, Refused}
 
 -- "Houses A to P and units 1 to 16 share one table of four-bit codes, in order"
 unfoldable pub lineCodes : List ℕ
@@ -54,6 +59,28 @@ meanings =
 unfoldable pub meaningOf : ℕ → Meaning
 meaningOf c = getD meanings c Unsupported
 
+-- what a function's code is read as: 2 for a code that makes no function, and so no message
+abbrev pub functionRead : Meaning → FunctionRead
+functionRead (Carries f) = Is f
+functionRead Extended = Refused refusal.Message
+functionRead Unsupported = Refused refusal.Message
+
+unfoldable pub functionAnswer : ℕ → FunctionRead
+functionAnswer c = functionRead (meaningOf c)
+
+abbrev pub isFunction : Meaning → Bool
+isFunction (Carries f) = true
+isFunction Extended = false
+isFunction Unsupported = false
+
+abbrev pub functionCauses : ℕ → List Cause
+functionCauses c = unless (isFunction (meaningOf c)) refusal.Message ∷ []
+
+-- 01's number and value for each answer
+abbrev pub functionReport : FunctionRead → Report Function
+functionReport (Is f) = reports (f ∷ [])
+functionReport (Refused why) = refuses why
+
 -- "the function name listed above in capitals with its spaces", each at its code; XTC798's names at 7, 10, 11 and 12
 unfoldable pub functionNames : List (List ℕ)
 functionNames =
@@ -70,5 +97,18 @@ nameAt c = getD functionNames c []
 unfoldable pub padded : List ℕ → List ℕ
 padded t = t ++ replicate (16 - length t) 0
 
-unfoldable pub paddedName : ℕ → List ℕ
-paddedName c = padded (nameAt c)
+-- ---- what holds of the tables: proofs/CodeLaws.antt
+
+-- no code and no name stands twice
+abbrev pub CodesOneToOne : Type 0
+CodesOneToOne = (i j : ℕ) → i < 16 → j < 16 → codeOf i ≡ codeOf j → i ≡ j
+
+abbrev pub NamesOneToOne : Type 0
+NamesOneToOne = (i j : ℕ) → i < 16 → j < 16 → nameAt i ≡ nameAt j → i ≡ j
+
+-- a code is read back, both ways: of houses and units, and of functions
+pub record CodesReadBack : Type 0 where
+  pub number-of-code : (n : ℕ) → n < 16 → numberOf (codeOf n) ≡ n
+  pub code-of-number : (c : ℕ) → c < 16 → codeOf (numberOf c) ≡ c
+  pub function-of-code : (f : Function) → functionAnswer (functionCode f) ≡ Is f
+  pub code-of-function : (c : ℕ) (f : Function) → functionAnswer c ≡ Is f → functionCode f ≡ c

@@ -1,8 +1,22 @@
 // The code numbers of houses, units and functions, and the functions' names.
 use crate::Function;
-use crate::Meaning;
+use ground::Refusal;
 ghost use mathlib.Core.Path.{_≡_};
-ghost use Rattle.message.specs.Codes.{codeOf, numberOf, functionCode, meaningOf, paddedName};
+ghost use Rattle.ground.specs.Refusals.{numberGiven};
+ghost use Rattle.message.specs.Codes.{codeOf, numberOf, functionCode, meaningOf, padded, nameAt, functionCauses, functionAnswer, functionReport};
+
+// What a four-bit code stands for where the function bit is 1.
+pub(crate) enum Meaning {
+    Function(Function),
+    Extended,
+    Unsupported,
+}
+
+// What a function's code is read as.
+pub enum FunctionRead {
+    Function(Function),
+    Refused(Refusal),
+}
 
 // The four-bit code of each house or unit number.
 const LINE_CODES: [u8; 16] = [6, 14, 2, 10, 1, 9, 5, 13, 7, 15, 3, 11, 0, 8, 4, 12];
@@ -87,7 +101,7 @@ pub fn function_code(f: Function) -> u8
 }
 
 // What a code stands for where the function bit is 1. A number above 15 is no code, and unsupported.
-pub fn meaning(code: u8) -> Meaning
+pub(crate) fn meaning_at(code: u8) -> Meaning
     ensures { λ r. ⌜ r ≡ meaningOf code ⌝ }
 {
     let n = code as usize;
@@ -98,10 +112,22 @@ pub fn meaning(code: u8) -> Meaning
     }
 }
 
-// The name that stands at a code, filled up with 0; all 0 for a number above 15.
-pub fn name_at(code: u8) -> [u8; 16]
-    ensures { λ r. ⌜ r ≡ paddedName code ⌝ }
+// The function that has a code. Refused where none of the twelve has it.
+pub fn function_at(code: u8) -> FunctionRead
+    ensures answer { λ r. ⌜ r ≡ functionAnswer code ⌝ }
+    ensures number { λ r. ⌜ functionReport r .number ≡ numberGiven (functionCauses code) ⌝ }
 {
-    let n = code as usize;
+    match meaning_at(code) {
+        Meaning::Function(f) => FunctionRead::Function(f),
+        Meaning::Extended => FunctionRead::Refused(Refusal::Message),
+        Meaning::Unsupported => FunctionRead::Refused(Refusal::Message),
+    }
+}
+
+// The name of a function, filled up with 0.
+pub fn name_of(f: Function) -> [u8; 16]
+    ensures { λ r. ⌜ r ≡ padded (nameAt (functionCode f)) ⌝ }
+{
+    let n = function_code(f) as usize;
     if n < 16 { FUNCTION_NAMES[n] } else { [0; 16] }
 }
