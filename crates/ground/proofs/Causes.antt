@@ -10,7 +10,7 @@ use mathlib.Core.Bool.{Bool, true, false, _&&_, not, and-eq-true-iff}
 use mathlib.Core.List.{List, [], _∷_}
 use Prim.Native.Nat.{ℕ, zero, suc, _≤_, _<_, min}
 use native.Mathlib.Omega.{arith}
-use borrow.Author.Tests.{leb-true, not-true, not-false, le-leb, lt-leb, eq-eqb, ne-eqb}
+use borrow.Author.Tests.{leb-true, not-true, not-false, le-leb, lt-leb, lt-ltb, le-ltb, eq-eqb, ne-eqb}
 use lib.Dec.{eqb, leb, eqb·suc-zero}
 use Rattle.ground.specs.Choice.{pick}
 use Rattle.ground.specs.Refusals.{refusalNumber, Cause, when, unless, judged, numberGiven, applies, causeNumber, lower, lowest, allFrom, rising, LowestGiven, SomeNumber}
@@ -50,7 +50,7 @@ module _ {r t : Bool} (meets : r ≡ t) where
   pub fine : not r ≡ false → t ≡ true
   fine h = sym meets ∙ not-false r h
 
-pub ruleset ladder = (through, stopped, passed, stopped-when, passed-when, bad, fine, le-leb, lt-leb, eq-eqb, ne-eqb)
+pub ruleset ladder = (through, stopped, passed, stopped-when, passed-when, bad, fine, le-leb, lt-leb, lt-ltb, le-ltb, eq-eqb, ne-eqb)
 
 -- ---- an answer taken further
 

@@ -1,18 +1,28 @@
 -- Laws of the code numbers: each table is one-to-one, and reading a code back gives the number it came from.
 --
---     codes-one-to-one, names-one-to-one     no code and no name stands twice
---     number-of-code, code-of-number         a code read back, both ways
+--     codes-one-to-one, names-one-to-one     CodesOneToOne, NamesOneToOne
+--     number-of-code, code-of-number         a code read back, both ways; with the functions' codes: codes-read-back
 --     code-below, number-below               codes and numbers are below 16
 --     meaning-of-function, function-of-meaning     a function's code read back, both ways
 --     extended-meaning, function-code-below        code 7 alone is extended; function codes are below 16
-use mathlib.Core.Path.{_≡_, refl, sym, ap, _∙_}
-use mathlib.Core.Bool.{Bool, true, false, _&&_}
+--     same-is-equal                                SameIsEqual
+use mathlib.Core.Path.{_≡_, refl, sym, ap, ap₂, subst, _∙_}
+use mathlib.Core.Bool.{Bool, true, false, false≢true, _&&_, and-eq-true-iff}
 use mathlib.Core.List.{List, [], _∷_}
-use Prim.Native.Nat.{ℕ, _<_}
-use borrow.Author.Tests.{eqb-true, ltb-true}
+use Prim.Native.Nat.{ℕ, _≤_, _<_}
+use native.Mathlib.Decide.{decLt}
+use native.Mathlib.Omega.{arith}
+use borrow.Author.Tests.{eqb-true, ltb-true, eq-eqb}
+use lib.ListN.{List·getD-eq-default}
+use Rattle.ground.proofs.Choices.{both}
 use lib.Dec.{eqb, ltb, lit<}
 use Rattle.ground.specs.Text.{bytesOf, bytesFrom}
-use Rattle.message.specs.Codes.{lineCodes, placeIn, codeOf, numberOf, functionNames, nameAt, functionCode, meanings, meaningOf}
+use Rattle.message.specs.Codes.{lineCodes, placeIn, codeOf, numberOf, functionNames, nameAt, functionCode, meanings, meaningOf, functionRead, functionAnswer, isFunction, CodesOneToOne, NamesOneToOne, CodesReadBack}
+use Rattle.message.specs.Messages.{sameMessage, SameIsEqual}
+use Rattle.message.specs.declared.Message.{Message}
+use Rattle.message.specs.declared.Message.the-variants.{Address, Function as Command, Extended as Longer}
+use Rattle.message.specs.declared.codes.FunctionRead.{FunctionRead}
+use Rattle.message.specs.declared.codes.FunctionRead.the-variants.{Function as Is, Refused}
 use Rattle.message.specs.declared.Function.{Function}
 use Rattle.message.specs.declared.Function.the-variants.{AllUnitsOff, AllLightsOn, On, Off, Dim, Bright, AllLightsOff, HailRequest, HailAcknowledge, StatusOn, StatusOff, StatusRequest}
 use Rattle.message.specs.declared.codes.Meaning.{Meaning}
@@ -21,17 +31,17 @@ use Rattle.message.proofs.Tables.{everyFrom, every-at, ReadsBack, read-
 
 -- ---- the line codes
 
-codes-read-back : ReadsBack eqb lineCodes
+entries-read-back : ReadsBack eqb lineCodes
 unfolding lineCodes placeIn
-codes-read-back = refl
+entries-read-back = refl
 
-pub codes-one-to-one : (i j : ℕ) → i < 16 → j < 16 → codeOf i ≡ codeOf j → i ≡ j
+pub codes-one-to-one : CodesOneToOne
 unfolding codeOf lineCodes
-codes-one-to-one i j hi hj e = one-to-one eqb lineCodes 0 i j codes-read-back hi hj e
+codes-one-to-one i j hi hj e = one-to-one eqb lineCodes 0 i j entries-read-back hi hj e
 
 pub number-of-code : (n : ℕ) → n < 16 → numberOf (codeOf n) ≡ n
 unfolding codeOf numberOf lineCodes
-number-of-code n h = read-back eqb lineCodes 0 n codes-read-back h
+number-of-code n h = read-back eqb lineCodes 0 n entries-read-back h
 
 pub code-below : (n : ℕ) → codeOf n < 16
 unfolding codeOf lineCodes
@@ -66,7 +76,7 @@ names-read-back : ReadsBack sameText functionNames
 unfolding functionNames bytesOf bytesFrom placeIn
 names-read-back = refl
 
-pub names-one-to-one : (i j : ℕ) → i < 16 → j < 16 → nameAt i ≡ nameAt j → i ≡ j
+pub names-one-to-one : NamesOneToOne
 unfolding nameAt functionNames
 names-one-to-one i j hi hj e = one-to-one sameText functionNames [] i j names-read-back hi hj e
 
@@ -122,3 +132,66 @@ function-code-below HailAcknowledge = lit< tt
 function-code-below StatusOn = lit< tt
 function-code-below StatusOff = lit< tt
 function-code-below StatusRequest = lit< tt
+
+-- ---- a function read back from its code
+
+-- a meaning that is read as a function is that function
+read-as : (m : Meaning) (f : Function) → functionRead m ≡ Is f → m ≡ Carries f
+read-as (Carries g) f e = cc
+read-as Extended f e = cc
+read-as Unsupported f e = cc
+
+-- what is past the last code stands for nothing
+within : (c : ℕ) (f : Function) → meaningOf c ≡ Carries f → c < 16
+unfolding meaningOf meanings
+within c f t = go (decLt c 16)
+  where
+    go : Dec (c < 16) → c < 16
+    go (yes h) = h
+    go (no h) =
+        let past : 16 ≤ c = omega arith in
+        let p : Unsupported ≡ Carries f = sym (List·getD-eq-default meanings Unsupported past) ∙ t in
+        absurd (false≢true (ap isFunction p))
+
+pub codes-read-back : CodesReadBack
+unfolding functionAnswer
+codes-read-back = record {
+  number-of-code = number-of-code;
+  code-of-number = code-of-number;
+  function-of-code = λ f. ap functionRead (meaning-of-function f);
+  code-of-function = λ c f e. let t = read-as (meaningOf c) f e in function-of-meaning c f (within c f t) t;
+}
+
+-- ---- one message
+
+same-function : (f k : Function) → functionCode f ≡ functionCode k → f ≡ k
+same-function f k e =
+    let p : Carries f ≡ Carries k = sym (meaning-of-function f) ∙ ap meaningOf e ∙ meaning-of-function k in
+    cc
+
+same-self : (m : Message) → sameMessage m m ≡ true
+same-self (Address h u) = both (eq-eqb h h refl) (eq-eqb u u refl)
+same-self (Command h f) = both (eq-eqb h h refl) (eq-eqb (functionCode f) (functionCode f) refl)
+same-self (Longer h u d c) = both (both (both (eq-eqb h h refl) (eq-eqb u u refl)) (eq-eqb d d refl)) (eq-eqb c c refl)
+
+pub same-is-equal : SameIsEqual
+same-is-equal m n = (to m n, λ e. subst (λ (k : Message). sameMessage m k ≡ true) e (same-self m))
+  where
+    to : (m n : Message) → sameMessage m n ≡ true → m ≡ n
+    to (Address h u) (Address g v) t =
+        let p = and-eq-true-iff (eqb h g) (eqb u v) .0 t in
+        ap₂ Address (eqb-true h g (p .0)) (eqb-true u v (p .1))
+    to (Command h f) (Command g k) t =
+        let p = and-eq-true-iff (eqb h g) (eqb (functionCode f) (functionCode k)) .0 t in
+        ap₂ Command (eqb-true h g (p .0)) (same-function f k (eqb-true (functionCode f) (functionCode k) (p .1)))
+    to (Longer h u d c) (Longer g v e b) t =
+        let p = and-eq-true-iff (eqb h g && eqb u v && eqb d e) (eqb c b) .0 t in
+        let q = and-eq-true-iff (eqb h g && eqb u v) (eqb d e) .0 (p .0) in
+        let r = and-eq-true-iff (eqb h g) (eqb u v) .0 (q .0) in
+        simp (eqb-true h g (r .0), eqb-true u v (r .1), eqb-true d e (q .1), eqb-true c b (p .1))
+    to (Address h u) (Command g k) t = absurd (false≢true t)
+    to (Address h u) (Longer g v e b) t = absurd (false≢true t)
+    to (Command h f) (Address g v) t = absurd (false≢true t)
+    to (Command h f) (Longer g v e b) t = absurd (false≢true t)
+    to (Longer h u d c) (Address g v) t = absurd (false≢true t)
+    to (Longer h u d c) (Command g k) t = absurd (false≢true t)

@@ -129,5 +129,5 @@ pub fn name_of(f: Function) -> [u8; 16]
     ensures { λ r. ⌜ r ≡ padded (nameAt (functionCode f)) ⌝ }
 {
     let n = function_code(f) as usize;
-    if n < 16 { FUNCTION_NAMES[n] } else { [0; 16] }
+    FUNCTION_NAMES[n]
 }

@@ -107,7 +107,7 @@ pub fn read_standard(bits: u32) -> Reading
     ensures answer { λ r. ⌜ r ≡ standardAnswer bits ⌝ }
     ensures report { λ r. ⌜ readingReport r ≡ judged (standardCauses bits) (readingReport (standardOf bits)) refuses ⌝ }
 {
-    if 511 < bits {
+    if 512 <= bits {
         return Reading::Refused(Refusal::State);
     }
     nine_read(bits)
@@ -118,7 +118,7 @@ pub fn read_extended(bits: u32) -> Reading
     ensures answer { λ r. ⌜ r ≡ extendedAnswer bits ⌝ }
     ensures report { λ r. ⌜ readingReport r ≡ judged (extendedCauses bits) (reports (extendedOf bits ∷ [])) refuses ⌝ }
 {
-    if 536870911 < bits {
+    if 536870912 <= bits {
         return Reading::Refused(Refusal::State);
     }
     if bits / 1048576 % 32 != 15 {
