@@ -9,8 +9,14 @@
  * is 0; that many bytes may be read there, and written where the pointer is not const; and no slice
  * that is written overlaps another of the same call.
  *
- * The answer is count * 256 + number (x10_count, x10_number). The number is 0, or the number of the
- * refusal, the lowest that applies; a refusal has count 0 and changes nothing that was lent. */
+ * The answer is one number of 64 bits. Bits 0 to 7 are the number given back (x10_number): 0, or the
+ * number of the refusal, the lowest that applies. Bits 8 and up are the count (x10_count). A refusal
+ * has count 0 and changes nothing that was lent.
+ *
+ * The routines on a table (x10_apply, x10_radio_route, x10_mains_route) keep their count, of modules
+ * whose level differs, in bits 8 to 23. Bits 24 to 39 are kept for a second count and bits 40 to 55
+ * for a reply, command and then data: they are 0 until a later version uses them, and so are bits 56
+ * to 63. Ask x10_modules for the count of these routines, so that your program stays right then. */
 
 #ifndef X10_H
 #define X10_H
@@ -43,6 +49,7 @@ enum x10_number {
 
 static inline uint8_t x10_number(uint64_t answer) { return (uint8_t)answer; }
 static inline uint64_t x10_count(uint64_t answer) { return answer >> 8; }
+static inline uint16_t x10_modules(uint64_t answer) { return (uint16_t)(answer >> 8); }
 
 /* A message is five numbers: its kind; its house, 0 to 15; a third number, which is the unit, 0 to 15,
  * of an address or an extended message, and the four-bit code of a function; data and command, which
@@ -69,6 +76,7 @@ enum x10_function {
 #define X10_LONGEST_BURST 124
 #define X10_RECEIVER_BYTES 11
 #define X10_EVENT_BYTES 6
+#define X10_ANSWER_BYTES 8
 #define X10_TABLE_BYTES 2064
 #define X10_MOST_STATIONS 16
 
@@ -91,9 +99,9 @@ enum x10_event { X10_NOTHING = 0, X10_GIVEN = 1, X10_REPEAT = 2 };
 
 /* Hands the receiver n half-cycles, one after the other. Event i is the six bytes at events + 6 * i:
  * what happened, and the message given, five zeros where there is none. Bytes beyond 6 * n stay.
- * Count: n. Refusals: 6, where state_len is not 11 or the message given before is neither five zeros
- * nor five bytes as a routine writes them, whatever house and unit; 9, where events_len is below
- * 6 * n. A receiver that docs/receiver.md refuses is no refusal of the call: each event is 5 or 6. */
+ * Count: n. Refusals: 6, where state_len is not 11, or the bytes are no receiver or one in no state
+ * that there is (docs/receiver.md); 9, where events_len is below 6 * n. A half-cycle that is not 0 or
+ * 1 is no refusal of the call: its event is 5, the receiver stays, and the next half-cycle follows. */
 uint64_t x10_receive(uint8_t *state, size_t state_len, const uint8_t *halves, size_t n,
                      uint8_t *events, size_t events_len);
 
@@ -129,13 +137,25 @@ uint64_t x10_bench_run(const uint8_t *messages, size_t m_len, const uint8_t *loa
  * whose level differs before and after the whole. Refusals: 1, 3, 12, 13, 14. */
 uint64_t x10_radio_route(uint8_t *table, size_t len, const uint8_t *code, size_t code_len);
 
-/* Hands the receiver one half-cycle and applies the message that it gives, if any, to the table; out
- * gets the six bytes of the event. Count: records whose level differs. Refusals: 1, 3, 5, 6, also
- * where state_len is not 11, and 9, where out_len is below 6. The number 4 is no refusal here: the
- * receiver gave a message that tables do not carry; receiver and out are written, and the table is as
- * it was. */
-uint64_t x10_mains_route(uint8_t *state, size_t state_len, uint8_t half, uint8_t *table, size_t len,
-                         uint8_t *out, size_t out_len);
+/* Hands the receiver n half-cycles, one after the other, and applies each message that it gives to the
+ * table before the next half-cycle. Events are as x10_receive leaves them. Beside event i, the eight
+ * bytes at answers + 8 * i are what the table answered to the message given: an answer as x10_apply
+ * gives it (0, or 4 for a message that tables do not carry, and the count of modules), its lowest byte
+ * first (x10_answer_at); 0 where no message was given. Bytes beyond 6 * n and 8 * n stay. The call's own
+ * number is 0 also where the table answered 4: the receiver goes on, and the table stays as it was.
+ * Count: modules whose level differs before and after the whole call. Refusals: 1, 3; 6, as
+ * x10_receive gives it; 9, where events_len is below 6 * n or answers_len below 8 * n. */
+uint64_t x10_mains_route(uint8_t *state, size_t state_len, const uint8_t *halves, size_t n,
+                         uint8_t *table, size_t len, uint8_t *events, size_t events_len,
+                         uint8_t *answers, size_t answers_len);
+
+/* Answer i of x10_mains_route as one number. */
+static inline uint64_t x10_answer_at(const uint8_t *answers, size_t i)
+{
+    uint64_t answer = 0;
+    for (size_t k = 8; k > 0; k--) answer = answer << 8 | answers[8 * i + k - 1];
+    return answer;
+}
 
 #ifdef __cplusplus
 }
