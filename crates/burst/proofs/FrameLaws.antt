@@ -3,8 +3,7 @@
 --     bits-length, pairs-length, frame-length, burst-length     how long each list is
 --     bits-below, pairs-below, frame-halves, burst-halves       every entry is 0 or 1
 --     bits-split, value-of-bits                                 the bits of a number in two parts; the number read back
---     frames-one-to-one                                         two valid messages with equal frames are equal
---     no-frame-begins-another                                   no frame is a proper beginning of another
+--     frames-one-to-one, no-frame-begins-another                FramesOneToOne, NoFrameBeginsAnother
 use mathlib.Core.Path.{_≡_, refl, sym, ap, ap₂, subst, _∙_}
 use mathlib.Core.Bool.{true}
 use mathlib.Core.List.{List, [], _∷_, _++_, append-nil}
@@ -22,10 +21,11 @@ use Rattle.message.specs.Messages.{messageOk, BytesOk}
 use Rattle.message.specs.Words.{wordOf, bitCount, nine, standardOf}
 use Rattle.message.specs.declared.Message.{Message}
 use Rattle.message.specs.declared.Message.the-variants.{Address, Function as Command, Extended}
-use Rattle.message.specs.declared.Reading.the-variants.{Whole, Extended as Begun}
+use Rattle.message.specs.declared.word.Reading.the-variants.{Message as Says, Longer as More}
 use Rattle.message.proofs.CodeLaws.{code-below}
 use Rattle.message.proofs.WordLaws.{word-below, words-one-to-one, head-of-extended, standard-of-head, standard-of-address, standard-of-function}
-use Rattle.burst.specs.Frames.{bitsOf, pairsOf, frameOf, frameLength, burstOf, burstLength}
+use Rattle.message.specs.declared.word.Word.{Word}
+use Rattle.burst.specs.Frames.{bitsOf, pairsOf, frameOf, frameLength, burstOf, burstLength, FramesOneToOne, NoFrameBeginsAnother}
 
 -- ---- lengths
 
@@ -139,17 +139,15 @@ same-bits m n e =
 word-of-bits : (m : Message) → BytesOk m → valueOf (bitsOf (bitCount m) (wordOf m)) ≡ wordOf m
 word-of-bits m b = value-of-bits (bitCount m) (wordOf m) ∙ mod-eq-of-lt (word-below m b)
 
--- two valid messages with equal frames are equal
-pub frames-one-to-one : (m n : Message) → messageOk m ≡ true → BytesOk m → messageOk n ≡ true → BytesOk n
-    → frameOf m ≡ frameOf n → m ≡ n
+pub frames-one-to-one : FramesOneToOne
 frames-one-to-one m n tm bm tn bn e =
     let eb = same-bits m n e in
-    words-one-to-one m n tm bm tn bn
-    (sym (bits-length (bitCount m) (wordOf m)) ∙ ap length eb ∙ bits-length (bitCount n) (wordOf n))
-    (sym (word-of-bits m bm) ∙ ap valueOf eb ∙ word-of-bits n bn)
+    let counts = sym (bits-length (bitCount m) (wordOf m)) ∙ ap length eb ∙ bits-length (bitCount n) (wordOf n) in
+    let words = sym (word-of-bits m bm) ∙ ap valueOf eb ∙ word-of-bits n bn in
+    words-one-to-one m n tm bm tn bn (ap₂ {C = Word} (λ (b k : ℕ). record { bits = b; count = k }) words counts)
 
 -- a standard frame's nine bits are not those that begin an extended frame, which say another thing
-module _ (m : Message) (count : bitCount m ≡ 9) (read : standardOf (wordOf m) ≡ Whole m) (bm : BytesOk m) where
+module _ (m : Message) (count : bitCount m ≡ 9) (read : standardOf (wordOf m) ≡ Says m) (bm : BytesOk m) where
   begins-no-extended : (h u d c : ℕ) (rest : List ℕ) → d < 256 → c < 256 → frameOf (Extended h u d c) ≡ frameOf m ++ rest → ⊥
   begins-no-extended h u d c rest hd hc e =
       let w : ℕ = wordOf (Extended h u d c) in
@@ -171,7 +169,7 @@ module _ (m : Message) (count : bitCount m ≡ 9) (read : standardOf (wordOf m) 
       ∙ sym (value-of-bits 9 (w / 2 ^ 20))
       ∙ ap valueOf first
       ∙ word-of-bits m bm in
-      let says : Begun ≡ Whole m = sym (standard-of-head h) ∙ ap standardOf same ∙ read in
+      let says : More ≡ Says m = sym (standard-of-head h) ∙ ap standardOf same ∙ read in
       let z : _≡_ {A = ℕ} 0 1 = cc in
       omega arith
 
@@ -183,9 +181,7 @@ nothing-left m n rest hl e = empty rest (omega (arith, frame-length m, frame-len
     empty [] h = refl
     empty (x ∷ xs) h = absurd (suc-ne-zero (length xs) h)
 
--- no frame is a proper beginning of another
-pub no-frame-begins-another : (m n : Message) (rest : List ℕ) → messageOk m ≡ true → BytesOk m → BytesOk n
-    → frameOf n ≡ frameOf m ++ rest → rest ≡ []
+pub no-frame-begins-another : NoFrameBeginsAnother
 no-frame-begins-another (Address h u) (Extended h′ u′ d c) rest t bm bn e =
     absurd (begins-no-extended (Address h u) refl (standard-of-address h u t) bm h′ u′ d c rest (bn .0) (bn .1) e)
 no-frame-begins-another (Command h f) (Extended h′ u′ d c) rest t bm bn e =

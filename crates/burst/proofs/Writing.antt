@@ -5,26 +5,33 @@
 --     burst-taken                        the burst taken from the array
 --     frame-at-most, count-at-most       the longest frame
 --     frame-of-bits                      a frame's length from its bits
---     refused-message, refused-short, burst-written     what the writer owes at each return
+--     has-bits, no-bits, few-bits        what the answer of `word_of` tells
+--     length-of-word, burst-copied       the writer's count and its buffer
+--     burst-lowest                       BurstLowest
 use mathlib.Core.Path.{_≡_, refl, sym, ap, ap₂, subst, _∙_}
-use mathlib.Core.Bool.{true, false}
+use mathlib.Core.Bool.{Bool, true, false, true≢false, false≢true}
 use mathlib.Core.List.{List, _∷_, _++_, append-assoc}
 use Prim.Native.Nat.{ℕ, zero, suc, _+_, _-_, _/_, _%_, _^_, _≤_, _<_}
 use native.Mathlib.Nat.{not-suc-le-zero, zero-add}
 use native.Mathlib.Numerals.{add-one, add-two, sub-one}
 use native.Mathlib.Omega.{arith}
-use borrow.Author.Tests.{le-leb, lt-leb}
 use lib.Dec.{lit≤}
 use lib.ListN.{length, getD, set, take, drop, replicate, List·getD-append}
 use lib.Seq.{sets, sets-eq, paste, paste-suc, take-at, drop-append-add, length-take-le, getD-take}
+use Rattle.ground.specs.Choice.{pick}
+use Rattle.ground.specs.Refusals.{judged}
+use Rattle.ground.specs.declared.Refusal.{Refusal}
+use Rattle.ground.specs.declared.Refusal.the-variants as refusal
+use Rattle.ground.proofs.Causes.{lowest-given}
 use Rattle.message.specs.Messages.{messageOk}
-use Rattle.message.specs.Words.{wordOf, bitCount}
+use Rattle.message.specs.Words.{wordOf, wordIn, wordAnswer, bitCount}
 use Rattle.message.specs.declared.Message.{Message}
 use Rattle.message.specs.declared.Message.the-variants.{Address, Function as Command, Extended}
+use Rattle.message.specs.declared.word.Word.{Word}
+use Rattle.message.specs.declared.word.WordAnswer.{WordAnswer}
+use Rattle.message.specs.declared.word.WordAnswer.the-variants.{Word as Bits, Refused as NoBits}
 use Rattle.burst.specs.Frames.{bitsOf, pairsOf, frameOf, frameLength, burstOf, burstLength}
-use Rattle.burst.specs.Writer.{answerOf, burstAnswer, written, bufferAfter}
-use Rattle.burst.specs.declared.BurstAnswer.{BurstAnswer}
-use Rattle.burst.specs.declared.BurstAnswer.the-variants.{Written, RefusedMessage, RefusedShort}
+use Rattle.burst.specs.Writer.{burstCauses, written, BurstLowest}
 use Rattle.burst.proofs.FrameLaws.{frame-length, burst-length}
 
 -- the next bit and its complement are put, and the rest is still to come
@@ -121,25 +128,41 @@ count-at-most (Address h u) = lit≤ tt
 count-at-most (Command h f) = lit≤ tt
 count-at-most (Extended h u d c) = lit≤ tt
 
--- ---- what the writer owes at each of its three returns: the answer and the buffer
+-- ---- what the writer answers
 
-abbrev Owed : BurstAnswer → Message → List ℕ → List ℕ → Type 0
-Owed r m buf after = (answerOf r ≡ burstAnswer m (length buf)) × (after ≡ bufferAfter m buf)
+abbrev isBits : WordAnswer → Bool
+isBits (Bits w) = true
+isBits (NoBits why) = false
 
-module _ (m : Message) (buf : List ℕ) where
-  pub refused-message : messageOk m ≡ false → Owed RefusedMessage m buf buf
-  unfolding burstAnswer bufferAfter
-  refused-message t = (rw t, rw t)
+-- the bits of a message, as its answer tells
+pub has-bits : (m : Message) (w : Word) → wordAnswer m ≡ Bits w → (messageOk m ≡ true) × (w ≡ wordIn m)
+unfolding wordAnswer judged
+has-bits m w e = go (messageOk m) e
+  where
+    go : (ok : Bool) → pick ok (Bits (wordIn m)) (NoBits refusal.Message) ≡ Bits w → (ok ≡ true) × (w ≡ wordIn m)
+    go true p = (refl, cc)
+    go false p = absurd (false≢true (ap isBits p))
 
-  pub refused-short : messageOk m ≡ true → length buf < burstLength m → Owed RefusedShort m buf buf
-  unfolding burstAnswer bufferAfter
-  refused-short t h = let s = lt-leb (burstLength m) (length buf) h in (rw (t, s), rw (t, s))
+pub no-bits : (m : Message) (why : Refusal) → wordAnswer m ≡ NoBits why → (messageOk m ≡ false) × (why ≡ refusal.Message)
+unfolding wordAnswer judged
+no-bits m why e = go (messageOk m) e
+  where
+    go : (ok : Bool) → pick ok (Bits (wordIn m)) (NoBits refusal.Message) ≡ NoBits why → (ok ≡ false) × (why ≡ refusal.Message)
+    go true p = absurd (true≢false (ap isBits p))
+    go false p = (refl, cc)
 
-  pub burst-written : (n : ℕ) (a after : List ℕ) → messageOk m ≡ true → n ≡ burstLength m → n ≤ length buf
-      → a ≡ burstOf m ++ replicate (124 - burstLength m) 0 → after ≡ take n a ++ drop n buf → Owed (Written n) m buf after
-  unfolding burstAnswer bufferAfter written
-  burst-written n a after t en h ea e =
-      let s = le-leb (burstLength m) (length buf) (omega arith) in (
-        rw (en, t, s),
-        e ∙ rw (t, s, en) (ap (λ (l : List ℕ). l ++ drop (burstLength m) buf) (burst-taken m a ea)),
-      )
+pub few-bits : (m : Message) (w : Word) → w ≡ wordIn m → w .count ≤ 29
+few-bits m w e = subst (λ (v : Word). v .count ≤ 29) (sym e) (count-at-most m)
+
+-- a frame's length, twice, is the burst's
+pub length-of-word : (m : Message) (w : Word) (f : ℕ) → w ≡ wordIn m → f ≡ 4 + (w .count + w .count) → f ≡ frameLength m
+length-of-word m w f e l = l ∙ ap (λ (v : Word). 4 + (v .count + v .count)) e ∙ sym (frame-of-bits m)
+
+-- the burst copied from the array is the burst written
+pub burst-copied : (m : Message) (buf a after : List ℕ) (n : ℕ) → n ≡ burstLength m
+    → a ≡ burstOf m ++ replicate (124 - burstLength m) 0 → after ≡ take n a ++ drop n buf → after ≡ written m buf
+unfolding written
+burst-copied m buf a after n en ea e = e ∙ rw en (ap (λ (l : List ℕ). l ++ drop (burstLength m) buf) (burst-taken m a ea))
+
+pub burst-lowest : BurstLowest
+burst-lowest m room = lowest-given (burstCauses m room) refl

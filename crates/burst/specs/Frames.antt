@@ -1,8 +1,11 @@
 -- Frames and bursts (01, 'Frames and bursts'; XTC798's text, not the end mark of its diagram).
 use Prim.Native.Nat.{ℕ, zero, suc, _+_, _-_, _/_, _%_, _^_}
+use mathlib.Core.Path.{_≡_}
+use mathlib.Core.Bool.{true}
 use mathlib.Core.List.{List, [], _∷_, _++_}
 use Rattle.message.specs.declared.Message.{Message}
 use Rattle.message.specs.declared.Message.the-variants.{Address, Function as Command, Extended}
+use Rattle.message.specs.Messages.{messageOk, BytesOk}
 use Rattle.message.specs.Words.{wordOf, bitCount}
 
 -- the k lowest bits of a number, "highest first"
@@ -31,3 +34,14 @@ burstOf m = frameOf m ++ frameOf m
 
 abbrev pub burstLength : Message → ℕ
 burstLength m = frameLength m + frameLength m
+
+-- ---- frames tell messages apart: proofs/FrameLaws.antt
+
+-- two valid messages with equal frames are equal
+abbrev pub FramesOneToOne : Type 0
+FramesOneToOne = (m n : Message) → messageOk m ≡ true → BytesOk m → messageOk n ≡ true → BytesOk n → frameOf m ≡ frameOf n → m ≡ n
+
+-- no frame is a proper beginning of another
+abbrev pub NoFrameBeginsAnother : Type 0
+NoFrameBeginsAnother =
+    (m n : Message) (rest : List ℕ) → messageOk m ≡ true → BytesOk m → BytesOk n → frameOf n ≡ frameOf m ++ rest → rest ≡ []

@@ -1,32 +1,21 @@
 // Bursts: the half-cycles that carry a message on the mains, one byte of 0 or 1 each.
+use ground::CountAnswer;
+use ground::Refusal;
 use message::Message;
-use message::word::bit_count;
+use message::word::Word;
+use message::word::WordAnswer;
 use message::word::word_of;
 ghost use mathlib.Core.Path.{_≡_};
-ghost use mathlib.Core.List.{_++_};
+ghost use mathlib.Core.List.{_∷_, [], _++_};
 ghost use Prim.Native.Nat.{_+_, _*_, _-_, _≤_};
 ghost use lib.ListN.{length, take, drop, replicate};
 ghost use lib.Seq.{sets, paste};
-ghost use Rattle.burst.specs.Frames.{bitsOf, pairsOf, frameOf, frameLength, burstOf, burstLength};
-ghost use Rattle.burst.specs.Writer.{answerOf, burstAnswer, bufferAfter};
-
-// What the burst writer answers.
-pub enum BurstAnswer {
-    // That many half-cycles stand at the buffer's front.
-    Written(usize),
-    // A house or unit above 15.
-    RefusedMessage,
-    // A buffer shorter than the burst.
-    RefusedShort,
-}
-
-// How many half-cycles a message's frame has: the start and a pair for each bit.
-pub fn frame_length(m: Message) -> usize
-    ensures { λ r. ⌜ r ≡ frameLength m ⌝ }
-{
-    let bits = bit_count(m);
-    4 + (bits + bits)
-}
+ghost use Rattle.ground.specs.Refusals.{judged, countReport, reports, refuses};
+ghost use Rattle.ground.specs.declared.CountAnswer.the-variants.{Done, Refused};
+ghost use Rattle.message.specs.Words.{wordIn};
+ghost use Rattle.message.specs.declared.Message.{Message};
+ghost use Rattle.burst.specs.Frames.{bitsOf, pairsOf, burstOf, burstLength};
+ghost use Rattle.burst.specs.Writer.{roomCauses, written, burstCauses, burstAnswer, bufferAfter};
 
 // Puts the n lowest bits of a word into the array from `at` on, highest first, each followed by its complement.
 fn put_pairs(a: [u8; 124], at: usize, word: u32, n: usize) -> [u8; 124]
@@ -46,15 +35,16 @@ fn put_pairs(a: [u8; 124], at: usize, word: u32, n: usize) -> [u8; 124]
     out
 }
 
-// The first frame at the front of an array that is otherwise 0.
-fn first_frame(m: Message) -> [u8; 124]
-    ensures { λ r. ⌜ r ≡ frameOf m ++ replicate (124 - frameLength m) 0 ⌝ }
+// The start and the pairs of a frame at the front of an array that is otherwise 0.
+fn first_frame(w: Word) -> [u8; 124]
+    requires { ⌜ w .count ≤ 29 ⌝ }
+    ensures { λ r. ⌜ r ≡ sets (1 ∷ 1 ∷ 1 ∷ replicate 121 0) 4 (pairsOf (bitsOf (w .count) (w .bits))) ⌝ }
 {
     let mut a = [0; 124];
     a[0] = 1;
     a[1] = 1;
     a[2] = 1;
-    put_pairs(a, 4, word_of(m), bit_count(m))
+    put_pairs(a, 4, w.bits, w.count as usize)
 }
 
 // The first n entries of the array once more, from n on: the frame's second copy, with no gap.
@@ -71,11 +61,21 @@ fn put_again(a: [u8; 124], n: usize) -> [u8; 124]
     out
 }
 
-// The burst whole, at the front of an array that is otherwise 0.
-fn whole_burst(m: Message) -> [u8; 124]
-    ensures { λ r. ⌜ r ≡ burstOf m ++ replicate (124 - burstLength m) 0 ⌝ }
+// How many half-cycles a frame of so many bits has: the start and a pair for each bit.
+fn frame_length(w: Word) -> usize
+    requires { ⌜ w .count ≤ 29 ⌝ }
+    ensures { λ r. ⌜ r ≡ 4 + (w .count + w .count) ⌝ }
 {
-    put_again(first_frame(m), frame_length(m))
+    let bits = w.count as usize;
+    4 + (bits + bits)
+}
+
+// The burst whole, at the front of an array that is otherwise 0.
+fn whole_burst(w: Word) -> [u8; 124]
+    requires { ⌜ w .count ≤ 29 ⌝ }
+    ensures { λ r. ⌜ ((m : Message) → w ≡ wordIn m → r ≡ burstOf m ++ replicate (124 - burstLength m) 0) ⌝ }
+{
+    put_again(first_frame(w), frame_length(w))
 }
 
 // Copies the first entries of the array to the buffer's front.
@@ -90,20 +90,30 @@ fn copy_front(a: [u8; 124], count: usize, buf: &mut [u8])
     }
 }
 
-// Writes a message's burst to the front of a lent buffer, one byte of 0 or 1 for each half-cycle; bytes beyond it stay. Refused, it
-// changes nothing.
-pub fn write_burst(m: Message, buf: &mut [u8]) -> BurstAnswer
-    ensures answer { λ r. ⌜ answerOf r ≡ burstAnswer m (length (now (buf .entry))) ⌝ }
-    ensures buffer { λ r. ⌜ now (buf .exit) ≡ bufferAfter m (now (buf .entry)) ⌝ }
+// Writes the burst of these bits to the buffer's front, if it has room: what is left of the writer once a message has its bits.
+fn write_word(w: Word, buf: &mut [u8]) -> CountAnswer
+    requires { ⌜ w .count ≤ 29 ⌝ }
+    ensures { λ r. ⌜ ((m : Message) → w ≡ wordIn m → r ≡ judged (roomCauses m (length (now (buf .entry)))) (Done (burstLength m)) Refused) ⌝ }
+    ensures { λ r. ⌜ ((m : Message) → w ≡ wordIn m → now (buf .exit) ≡ judged (roomCauses m (length (now (buf .entry)))) (written m (now (buf .entry))) (λ why. now (buf .entry))) ⌝ }
 {
-    if !message::valid(m) {
-        return BurstAnswer::RefusedMessage;
-    }
-    let f = frame_length(m);
+    let f = frame_length(w);
     let n = f + f;
     if buf.len() < n {
-        return BurstAnswer::RefusedShort;
+        return CountAnswer::Refused(Refusal::Short);
     }
-    copy_front(whole_burst(m), n, buf);
-    BurstAnswer::Written(n)
+    copy_front(whole_burst(w), n, buf);
+    CountAnswer::Done(n)
+}
+
+// Writes a message's burst to the front of a lent buffer, one byte of 0 or 1 for each half-cycle, and answers how many; bytes beyond
+// it stay. Refused, it changes nothing.
+pub fn write_burst(m: Message, buf: &mut [u8]) -> CountAnswer
+    ensures answer { λ r. ⌜ r ≡ burstAnswer m (length (now (buf .entry))) ⌝ }
+    ensures report { λ r. ⌜ countReport r ≡ judged (burstCauses m (length (now (buf .entry)))) (reports (burstLength m ∷ [])) refuses ⌝ }
+    ensures buffer { λ _. ⌜ now (buf .exit) ≡ bufferAfter m (now (buf .entry)) ⌝ }
+{
+    match word_of(m) {
+        WordAnswer::Word(w) => write_word(w, buf),
+        WordAnswer::Refused(why) => CountAnswer::Refused(why),
+    }
 }

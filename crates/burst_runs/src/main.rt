@@ -1,6 +1,7 @@
 // Shows bursts on standard output: for each message and each length of buffer the number and count that the writer gives, then the
 // whole buffer, in which every byte was a dot before.
-use burst::BurstAnswer;
+use ground::CountAnswer;
+use ground::refusal_number;
 use message::Function;
 use message::Message;
 
@@ -15,18 +16,21 @@ fn show(name: &[u8], m: Message, length: usize) {
     }
     io::write_all(1, name);
     io::write_all(1, b"\t");
-    let answer = burst::write_burst(m, &mut space[..length]);
-    match answer {
-        BurstAnswer::Written(n) => report(0, n),
-        BurstAnswer::RefusedMessage => report(2, 0),
-        BurstAnswer::RefusedShort => report(9, 0),
-    }
+    report(burst::write_burst(m, &mut space[..length]));
     let text = digits(space);
     io::write_all(1, &text[..length]);
     io::write_all(1, b"\n");
 }
 
-fn report(number: u64, count: usize) {
+// The number given back and the count.
+fn report(answer: CountAnswer) {
+    match answer {
+        CountAnswer::Done(n) => print_two(0, n),
+        CountAnswer::Refused(why) => print_two(refusal_number(why) as u64, 0),
+    }
+}
+
+fn print_two(number: u64, count: usize) {
     io::print_decimal(1, number);
     io::write_all(1, b"\t");
     io::print_decimal(1, count as u64);

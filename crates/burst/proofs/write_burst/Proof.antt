@@ -1,65 +1,64 @@
--- `write_burst` meets its contract: each return is one law of `Writing`.
-use mathlib.Core.Path.{_∙_, ap, sym}
-use Prim.Native.Nat.{ℕ, _+_}
-use native.Mathlib.Omega.{arith}
-use borrow.Author.Tests.{not-true, not-false}
-use Rattle.burst.proofs.Writing.{frame-at-most, refused-message, refused-short, burst-written}
+-- `write_burst` meets its contract: a message without bits is the first cause, and what is left of the causes is its callee's.
+use mathlib.Core.Path.{sym, ap, _∙_}
+use Rattle.ground.specs.Refusals.{countReport}
+use Rattle.ground.specs.declared.CountAnswer.the-variants.{Done, Refused}
+use Rattle.ground.proofs.Causes.{ladder, judged-map}
+use Rattle.burst.specs.Frames.{burstLength}
+use Rattle.burst.specs.Writer.{roomCauses, burstAnswer, bufferAfter}
+use Rattle.burst.proofs.Writing.{has-bits, no-bits, few-bits}
 use borrow.Author.Needs.{needs}
 use Rattle.burst.proofs.write_burst.Statement.{statement}
 use Rattle.burst.proofs.write_burst.Tie as tie
 
-valid-requires : tie.Need-valid-requires
-valid-requires c κs = search needs
+word-of-requires : tie.Need-word-of-requires
+word-of-requires c κs = search needs
 
-returns : tie.Need-returns
-returns c = refused-message (c .before .before .before .args .m) (c .before .before .before .args .buf .now) (sym (c .before .valid .ensures) ∙ not-true _ (c .if1 .taken))
+enum-known-w : tie.Need-enum-known-w
+enum-known-w c = search needs
 
-frame-length-requires : tie.Need-frame-length-requires
-frame-length-requires c κs = search needs
+write-word-requires : tie.Need-write-word-requires
+write-word-requires c κs =
+    let m = c .before .before .before .before .before .before .args .m in
+    let w = c .before .before .w .given in
+    few-bits m (w .0 .0) (has-bits m (w .0 .0) (sym (c .before .before .before .before .word-of .ensures .0) ∙ w .1) .1)
 
-add-n : tie.Need-add-n
-add-n c = omega (arith, c .frame-length .ensures, frame-at-most (c .before .before .before .before .args .m))
-
-returns-2 : tie.Need-returns-2
-returns-2 c =
-    let m = c .before .before .before .before .before .args .m in
-    refused-short m (c .before .before .before .before .before .args .buf .now)
-    (sym (c .before .before .before .valid .ensures) ∙ not-false _ (c .before .before .if1 .left))
-    (omega (arith, c .before .frame-length .ensures))
-
-whole-burst-requires : tie.Need-whole-burst-requires
-whole-burst-requires c κs = search needs
-
-copy-front-requires : tie.Need-copy-front-requires
-copy-front-requires c κs =
-    let short = frame-at-most (c .before .before .before .before .before .before .before .args .m) in
-    (omega (arith, c .before .before .before .frame-length .ensures), omega (arith, c .before .before .if2 .left))
+enum-known-why : tie.Need-enum-known-why
+enum-known-why c = search needs
 
 same-length : tie.Need-same-length
 same-length c = search needs
 
-returns-3 : tie.Need-returns-3
-returns-3 c =
-    let start = c .before .before .before .before .before .before .before .before .before .before in
-    let f = c .before .before .before .before .before .before .frame-length in
-    burst-written (start .args .m) (start .args .buf .now) (f .result + f .result) (c .before .before .before .before .whole-burst .result) _
-    (sym (c .before .before .before .before .before .before .before .before .valid .ensures)
-    ∙ not-false _ (c .before .before .before .before .before .before .before .if1 .left))
-    (ap (λ (k : ℕ). k + k) (f .ensures))
-    (c .before .before .before .before .before .if2 .left)
-    (c .before .before .before .before .whole-burst .ensures)
-    (c .before .before .copy-front .ensures)
+returns : tie.Need-returns
+unfolding burstAnswer bufferAfter
+returns c =
+    let start = c .before .before .before .before .before .before .before .before .before in
+    let w = c .before .before .before .before .before .w .given in
+    let m = start .args .m in
+    let bits = has-bits m (w .0 .0) (sym (c .before .before .before .before .before .before .before .word-of .ensures .0) ∙ w .1) in
+    let ok = bits .0 in
+    let rest = c .before .before .write-word .ensures .0 m (bits .1) in
+    let buffer = c .before .before .write-word .ensures .1 m (bits .1) in
+    let report = ap countReport rest ∙ judged-map countReport (Done (burstLength m)) Refused (roomCauses m _) in
+    (search ladder, (search ladder, search ladder))
+
+returns-2 : tie.Need-returns-2
+unfolding burstAnswer bufferAfter
+returns-2 c =
+    let why = c .before .why .given in
+    let none = no-bits (c .before .before .before .before .before .args .m) (why .0 .0) (sym (c .before .before .before .word-of .ensures .0) ∙ why .1) in
+    let bad-message = none .0 in
+    let answer = ap Refused (none .1) in
+    let report = ap countReport answer in
+    (search ladder, (search ladder, search ladder))
 
 pub write-burst-spec : {M : Type 1} → statement M
 write-burst-spec =
     tie.close
     (tie.spec
-    valid-requires
-    returns
-    frame-length-requires
-    add-n
-    returns-2
-    whole-burst-requires
-    copy-front-requires
+    word-of-requires
+    enum-known-w
+    write-word-requires
+    enum-known-why
     same-length
-    returns-3)
+    returns
+    returns-2)

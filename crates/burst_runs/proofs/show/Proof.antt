@@ -28,23 +28,8 @@ slice-aggregate-write-burst c = sym (length-take-le _ _ (c .before .before .befo
 write-burst-requires : tie.Need-write-burst-requires
 write-burst-requires c κs = search needs
 
-enum-known-answer : tie.Need-enum-known-answer
-enum-known-answer c = search needs
-
 report-requires : tie.Need-report-requires
 report-requires c κs = search needs
-
-enum-told : tie.Need-enum-told
-enum-told c = search needs
-
-report-requires-2 : tie.Need-report-requires-2
-report-requires-2 c κs = search needs
-
-enum-told-2 : tie.Need-enum-told-2
-enum-told-2 c = search needs
-
-report-requires-3 : tie.Need-report-requires-3
-report-requires-3 c κs = search needs
 
 digits-requires : tie.Need-digits-requires
 digits-requires c κs = search needs
@@ -80,12 +65,7 @@ show-spec =
     array-borrow-prefix-space
     slice-aggregate-write-burst
     write-burst-requires
-    enum-known-answer
     report-requires
-    enum-told
-    report-requires-2
-    enum-told-2
-    report-requires-3
     digits-requires
     array-share-prefix-text
     slice-aggregate-write-all-2
