@@ -1,8 +1,8 @@
--- `commands::status_plan` meets its contract: the test is the definition's.
+-- `extended::status_plan` meets its contract: the test is the definition's.
 use mathlib.Core.Path.{sym}
 use borrow.Author.Needs.{needs}
-use Rattle.record.proofs.commands.status_plan.Statement.{statement}
-use Rattle.record.proofs.commands.status_plan.Tie as tie
+use Rattle.plan.proofs.extended.status_plan.Statement.{statement}
+use Rattle.plan.proofs.extended.status_plan.Tie as tie
 
 bit-of-requires : tie.Need-bit-of-requires
 bit-of-requires c κs = search needs

@@ -1,8 +1,8 @@
--- `commands::execute_plan` meets its contract: bit 4 decides between the two acts.
+-- `extended::execute_plan` meets its contract: bit 4 decides between the two acts.
 use mathlib.Core.Path.{sym, _∙_}
 use borrow.Author.Needs.{needs}
-use Rattle.record.proofs.commands.execute_plan.Statement.{statement}
-use Rattle.record.proofs.commands.execute_plan.Tie as tie
+use Rattle.plan.proofs.extended.execute_plan.Statement.{statement}
+use Rattle.plan.proofs.extended.execute_plan.Tie as tie
 
 bit-of-requires : tie.Need-bit-of-requires
 bit-of-requires c κs = search needs

@@ -1,9 +1,9 @@
--- `commands::extended_plan` meets its contract: each arm names the command, and past the arms it is none of them.
+-- `extended::extended_plan` meets its contract: each arm names the command, and past the arms it is none of them.
 use borrow.Author.Tests.{ne-eqb}
-use Rattle.record.specs.ModuleTable.{extendedPlan}
+use Rattle.plan.specs.Plans.{extendedPlan}
 use borrow.Author.Needs.{needs}
-use Rattle.record.proofs.commands.extended_plan.Statement.{statement}
-use Rattle.record.proofs.commands.extended_plan.Tie as tie
+use Rattle.plan.proofs.extended.extended_plan.Statement.{statement}
+use Rattle.plan.proofs.extended.extended_plan.Tie as tie
 
 if-absolute-requires : tie.Need-if-absolute-requires
 if-absolute-requires c κs = search needs

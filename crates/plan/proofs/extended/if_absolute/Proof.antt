@@ -1,8 +1,8 @@
--- `commands::if_absolute` meets its contract: bit 5 decides.
+-- `extended::if_absolute` meets its contract: bit 5 decides.
 use mathlib.Core.Path.{sym, _∙_}
 use borrow.Author.Needs.{needs}
-use Rattle.record.proofs.commands.if_absolute.Statement.{statement}
-use Rattle.record.proofs.commands.if_absolute.Tie as tie
+use Rattle.plan.proofs.extended.if_absolute.Statement.{statement}
+use Rattle.plan.proofs.extended.if_absolute.Tie as tie
 
 bit-of-requires : tie.Need-bit-of-requires
 bit-of-requires c κs = search needs

@@ -1,7 +1,7 @@
--- `commands::leave_plan` meets its contract: the top four bits are 0, are 15, or are neither.
+-- `extended::leave_plan` meets its contract: the top four bits are 0, are 15, or are neither.
 use borrow.Author.Tests.{eq-eqb, ne-eqb}
-use Rattle.record.proofs.commands.leave_plan.Statement.{statement}
-use Rattle.record.proofs.commands.leave_plan.Tie as tie
+use Rattle.plan.proofs.extended.leave_plan.Statement.{statement}
+use Rattle.plan.proofs.extended.leave_plan.Tie as tie
 
 returns : tie.Need-returns
 returns c = simp (eq-eqb _ _ (c .match .keys1))
