@@ -49,7 +49,7 @@ unfoldable pub houseAt : List ℕ → ℕ → House
 houseAt t h = record { heard = getD t (HEARD-AT + h) 0 }
 
 unfoldable pub putHouse : List ℕ → ℕ → House → List ℕ
-putHouse t h x = set t (HEARD-AT + h) (x .heard)
+putHouse t h own = set t (HEARD-AT + h) (own .heard)
 
 -- "kind (0 none, 1 lamp, 2 appliance)"
 abbrev pub present : Record → Bool
@@ -79,7 +79,7 @@ withAddressed x r =
 
 -- the house's own bytes with the "command heard" byte changed to x
 abbrev pub withHeard : ℕ → House → House
-withHeard x h = record { heard = x }
+withHeard x own = record { heard = x }
 
 -- the mask with a bit for each of the four groups, and the record as a member of the groups k with `mem k`, its presets `pre k`
 abbrev pub maskOf : Bool → Bool → Bool → Bool → ℕ

@@ -50,7 +50,7 @@ allBelow (suc n) f = allBelow n f && f n
 
 -- "House bytes are 0 or 1."
 abbrev pub houseOk : House → Bool
-houseOk x = leb (x .heard) 1
+houseOk own = leb (own .heard) 1
 
 -- each record keeps the rules, and so do each house's own bytes
 abbrev pub recordsOk : ℕ → List ℕ → Bool
@@ -108,61 +108,63 @@ joined g x r = regroup (λ k. eqb g k || member k r) (λ k. pick (eqb g k) x (pr
 unfoldable pub left : ℕ → Record → Record
 left gs r = regroup (λ k. member k r && not (bit k gs)) (λ k. pick (bit k gs) 0 (preset k r)) r
 
--- what an act does to the record of unit n of house h, if a module is there; "Address: if the house byte is 1, the whole house
+-- what an act does to the record of unit n, by the house's own bytes, if a module is there; "Address: if the house byte is 1, the whole house
 -- becomes unaddressed ..; then that unit .. is addressed."
 abbrev pub acted : Act → House → ℕ → Record → Record
-acted Nothing h n r = r
-acted (Address u) h n r = withAddressed (pick (eqb n u) 1 (pick (eqb (h .heard) 1) 0 (r .addressed))) r
-acted (Obey f) h n r = obeyed f r
-acted (Join u g) h n r = pick (eqb n u) (joined g (r .level) r) r
-acted (Level u b) h n r = relevel (eqb n u) (levelFor b r) r
-acted (JoinAt u g b) h n r = pick (eqb n u) (joined g (levelFor b r) r) r
-acted UnitsOn h n r = withLevel 63 r
-acted UnitsOff h n r = withLevel 0 r
-acted (Leave u gs) h n r = pick (eqb n u) (left gs r) r
-acted (LeaveHouse gs) h n r = left gs r
-acted (Execute g) h n r = relevel (member g r) (preset g r) r
-acted (GroupOff g) h n r = relevel (member g r) 0 r
-acted (GroupDim g) h n r = relevel (member g r && lamp r) (dimmed (r .level)) r
-acted (GroupBright g) h n r = relevel (member g r && lamp r) (brightened (r .level)) r
+acted Nothing own n r = r
+acted (Address u) own n r = withAddressed (pick (eqb n u) 1 (pick (eqb (own .heard) 1) 0 (r .addressed))) r
+acted (Obey f) own n r = obeyed f r
+acted (Join u g) own n r = pick (eqb n u) (joined g (r .level) r) r
+acted (Level u b) own n r = relevel (eqb n u) (levelFor b r) r
+acted (JoinAt u g b) own n r = pick (eqb n u) (joined g (levelFor b r) r) r
+acted UnitsOn own n r = withLevel 63 r
+acted UnitsOff own n r = withLevel 0 r
+acted (Leave u gs) own n r = pick (eqb n u) (left gs r) r
+acted (LeaveHouse gs) own n r = left gs r
+acted (Execute g) own n r = relevel (member g r) (preset g r) r
+acted (GroupOff g) own n r = relevel (member g r) 0 r
+acted (GroupDim g) own n r = relevel (member g r && lamp r) (dimmed (r .level)) r
+acted (GroupBright g) own n r = relevel (member g r && lamp r) (brightened (r .level)) r
 
 -- "Kind 0 is all zeros", and stays so: "An absent unit named by a carried command changes nothing"
 unfoldable pub stepRecord : Act → House → ℕ → Record → Record
-stepRecord a h n r = pick (present r) (acted a h n r) r
+stepRecord a own n r = pick (present r) (acted a own n r) r
 
 -- ---- What it does to the house's own bytes
 
 -- "if the house byte is 1, .. the byte 0"; "Each function sets the house byte to 1 after acting."; the extended commands "never
 -- touch addressing or house bytes"
 abbrev pub houseAfter : Act → House → House
-houseAfter Nothing h = h
-houseAfter (Address u) h = withHeard 0 h
-houseAfter (Obey f) h = withHeard 1 h
-houseAfter (Join u g) h = h
-houseAfter (Level u b) h = h
-houseAfter (JoinAt u g b) h = h
-houseAfter UnitsOn h = h
-houseAfter UnitsOff h = h
-houseAfter (Leave u gs) h = h
-houseAfter (LeaveHouse gs) h = h
-houseAfter (Execute g) h = h
-houseAfter (GroupOff g) h = h
-houseAfter (GroupDim g) h = h
-houseAfter (GroupBright g) h = h
+houseAfter Nothing own = own
+houseAfter (Address u) own = withHeard 0 own
+houseAfter (Obey f) own = withHeard 1 own
+houseAfter (Join u g) own = own
+houseAfter (Level u b) own = own
+houseAfter (JoinAt u g b) own = own
+houseAfter UnitsOn own = own
+houseAfter UnitsOff own = own
+houseAfter (Leave u gs) own = own
+houseAfter (LeaveHouse gs) own = own
+houseAfter (Execute g) own = own
+houseAfter (GroupOff g) own = own
+houseAfter (GroupDim g) own = own
+houseAfter (GroupBright g) own = own
 
 -- ---- What it does to the table
 
--- the first n records of house i, whose own bytes are h, each stepped where it lies
+-- the first n records of house h, each stepped where it lies, by the house's own bytes
 unfoldable pub stepHouse : ℕ → Act → House → ℕ → List ℕ → List ℕ
-stepHouse zero a h i t = t
-stepHouse (suc n) a h i t =
-    let s = stepHouse n a h i t in
-    let k = i * UNITS + n in
-    put s k (stepRecord a h n (recordAt s k))
+stepHouse zero a own h t = t
+stepHouse (suc n) a own h t =
+    let s = stepHouse n a own h t in
+    let i = h * UNITS + n in
+    put s i (stepRecord a own n (recordAt s i))
 
--- an act run for house i: its sixteen records, and then its own bytes
+-- an act run for house h: its sixteen records, and then its own bytes
 unfoldable pub runAct : Act → ℕ → List ℕ → List ℕ
-runAct a i t = putHouse (stepHouse UNITS a (houseAt t i) i t) i (houseAfter a (houseAt t i))
+runAct a h t =
+    let own = houseAt t h in
+    putHouse (stepHouse UNITS a own h t) h (houseAfter a own)
 
 -- a message carried out; nothing where it is refused
 abbrev pub carriedOut : Message → Plan → List ℕ → List ℕ

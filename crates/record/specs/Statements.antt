@@ -10,12 +10,12 @@ use Rattle.record.specs.ModuleTable.{recordOk, houseOk, stepRecord, hous
 
 -- a record that keeps the rules keeps them
 abbrev pub RecordStaysValid : Type 0
-RecordStaysValid = (a : Act) (h : House) (n : ℕ) (r : Record) → recordOk r ≡ true → recordOk (stepRecord a h n r) ≡ true
+RecordStaysValid = (a : Act) (own : House) (n : ℕ) (r : Record) → recordOk r ≡ true → recordOk (stepRecord a own n r) ≡ true
 
 -- so do a house's own bytes
 abbrev pub HouseStaysValid : Type 0
-HouseStaysValid = (a : Act) (h : House) → houseOk h ≡ true → houseOk (houseAfter a h) ≡ true
+HouseStaysValid = (a : Act) (own : House) → houseOk own ≡ true → houseOk (houseAfter a own) ≡ true
 
 -- "An absent unit .. changes nothing"
 abbrev pub AbsentStays : Type 0
-AbsentStays = (a : Act) (h : House) (n : ℕ) (r : Record) → present r ≡ false → stepRecord a h n r ≡ r
+AbsentStays = (a : Act) (own : House) (n : ℕ) (r : Record) → present r ≡ false → stepRecord a own n r ≡ r

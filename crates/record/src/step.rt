@@ -193,11 +193,7 @@ fn act_on(act: Act, house: House, n: u8, r: Record) -> Record
         Act::LeaveHouse { groups } => leave(groups, r),
         Act::Execute { group } => level_if(bit_of(group, r.mask), preset_of(group, r), r),
         Act::GroupOff { group } => level_if(bit_of(group, r.mask), 0, r),
-        Act::GroupDim { group } => level_if(
-            bit_of(group, r.mask) & (r.kind == 1),
-            dim(r.level),
-            r,
-        ),
+        Act::GroupDim { group } => level_if(bit_of(group, r.mask) & (r.kind == 1), dim(r.level), r),
         Act::GroupBright { group } => level_if(
             bit_of(group, r.mask) & (r.kind == 1),
             brighten(r.level),
