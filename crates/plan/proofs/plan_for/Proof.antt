@@ -1,37 +1,29 @@
--- `commands::plan_for` meets its contract: in each arm the message is the one that the pattern names.
+-- `plan_for` meets its contract: the message is tested first, and past the test the plan is the answer.
+use mathlib.Core.Path.{ap, _∙_}
 use borrow.Author.Needs.{needs}
-use Rattle.record.proofs.commands.plan_for.Statement.{statement}
-use Rattle.record.proofs.commands.plan_for.Tie as tie
+use Rattle.ground.proofs.Causes.{ladder, judged-map}
+use Rattle.plan.specs.Plans.{planAnswer, planReport}
+use Rattle.plan.proofs.PlanLaws.{plan-rest}
+use Rattle.plan.proofs.plan_for.Statement.{statement}
+use Rattle.plan.proofs.plan_for.Tie as tie
 
-enum-known-m : tie.Need-enum-known-m
-enum-known-m c = search needs
-
-enum-known-m-2 : tie.Need-enum-known-m-2
-enum-known-m-2 c = search needs
-
-enum-known-m-3 : tie.Need-enum-known-m-3
-enum-known-m-3 c = search needs
-
-extended-plan-requires : tie.Need-extended-plan-requires
-extended-plan-requires c κs = search needs
+valid-requires : tie.Need-valid-requires
+valid-requires c κs = search needs
 
 returns : tie.Need-returns
-returns c = simp (c .before .m .given .1)
+unfolding planAnswer
+returns c = (search ladder, search ladder)
+
+asked-requires : tie.Need-asked-requires
+asked-requires c κs = search needs
 
 returns-2 : tie.Need-returns-2
-returns-2 c = simp (c .before .m2 .given .1)
-
-returns-3 : tie.Need-returns-3
-returns-3 c = simp (c .before .before .m3 .given .1, c .extended-plan .ensures)
+unfolding planAnswer
+returns-2 c =
+    let m = c .before .before .before .args .m in
+    let rest = c .asked .ensures ∙ plan-rest m in
+    let told = ap planReport rest ∙ judged-map planReport _ _ _ in
+    (search ladder, search ladder)
 
 pub plan-for-spec : {M : Type 1} → statement M
-plan-for-spec =
-    tie.close
-    (tie.spec
-    enum-known-m
-    enum-known-m-2
-    enum-known-m-3
-    extended-plan-requires
-    returns
-    returns-2
-    returns-3)
+plan-for-spec = tie.close (tie.spec valid-requires returns asked-requires returns-2)
