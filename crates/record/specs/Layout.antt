@@ -36,7 +36,16 @@ TABLE-BYTES = HEARD-AT + HOUSES * HOUSE-BYTES
 unfoldable pub recordAt : List ℕ → ℕ → Record
 recordAt t i =
     let at = i * RECORD-BYTES in
-    record { kind = getD t at 0; level = getD t (at + 1) 0; addressed = getD t (at + 2) 0; mask = getD t (at + 3) 0; preset0 = getD t (at + 4) 0; preset1 = getD t (at + 5) 0; preset2 = getD t (at + 6) 0; preset3 = getD t (at + 7) 0 }
+    record {
+      kind = getD t at 0;
+      level = getD t (at + 1) 0;
+      addressed = getD t (at + 2) 0;
+      mask = getD t (at + 3) 0;
+      preset0 = getD t (at + 4) 0;
+      preset1 = getD t (at + 5) 0;
+      preset2 = getD t (at + 6) 0;
+      preset3 = getD t (at + 7) 0;
+    }
 
 abbrev pub bytesOf : Record → List ℕ
 bytesOf r = r .kind ∷ r .level ∷ r .addressed ∷ r .mask ∷ r .preset0 ∷ r .preset1 ∷ r .preset2 ∷ r .preset3 ∷ []
@@ -71,15 +80,29 @@ preset g r = pick (eqb g 0) (r .preset0) (pick (eqb g 1) (r .preset1) (pick (eqb
 -- the record with its level, or its mark of being addressed, changed to x
 abbrev pub withLevel : ℕ → Record → Record
 withLevel x r =
-    record { kind = r .kind; level = x; addressed = r .addressed; mask = r .mask; preset0 = r .preset0; preset1 = r .preset1; preset2 = r .preset2; preset3 = r .preset3 }
+    record {
+      kind = r .kind;
+      level = x;
+      addressed = r .addressed;
+      mask = r .mask;
+      preset0 = r .preset0;
+      preset1 = r .preset1;
+      preset2 = r .preset2;
+      preset3 = r .preset3;
+    }
 
 abbrev pub withAddressed : ℕ → Record → Record
 withAddressed x r =
-    record { kind = r .kind; level = r .level; addressed = x; mask = r .mask; preset0 = r .preset0; preset1 = r .preset1; preset2 = r .preset2; preset3 = r .preset3 }
-
--- the house's own bytes with the "command heard" byte changed to x
-abbrev pub withHeard : ℕ → House → House
-withHeard x own = record { heard = x }
+    record {
+      kind = r .kind;
+      level = r .level;
+      addressed = x;
+      mask = r .mask;
+      preset0 = r .preset0;
+      preset1 = r .preset1;
+      preset2 = r .preset2;
+      preset3 = r .preset3;
+    }
 
 -- the mask with a bit for each of the four groups, and the record as a member of the groups k with `mem k`, its presets `pre k`
 abbrev pub maskOf : Bool → Bool → Bool → Bool → ℕ
@@ -87,4 +110,13 @@ maskOf a b c d = pick a 1 0 + pick b 2 0 + pick c 4 0 + pick d 8 0
 
 abbrev pub regroup : (ℕ → Bool) → (ℕ → ℕ) → Record → Record
 regroup mem pre r =
-    record { kind = r .kind; level = r .level; addressed = r .addressed; mask = maskOf (mem 0) (mem 1) (mem 2) (mem 3); preset0 = pre 0; preset1 = pre 1; preset2 = pre 2; preset3 = pre 3 }
+    record {
+      kind = r .kind;
+      level = r .level;
+      addressed = r .addressed;
+      mask = maskOf (mem 0) (mem 1) (mem 2) (mem 3);
+      preset0 = pre 0;
+      preset1 = pre 1;
+      preset2 = pre 2;
+      preset3 = pre 3;
+    }

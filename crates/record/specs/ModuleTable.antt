@@ -17,7 +17,7 @@ use Rattle.plan.specs.declared.Plan.the-variants.{Run, Refused}
 use Rattle.plan.specs.Plans.{bit, houseOf}
 use Rattle.record.specs.declared.Record.{Record}
 use Rattle.record.specs.declared.House.{House}
-use Rattle.record.specs.Layout.{RECORDS, UNITS, HOUSES, TABLE-BYTES, recordAt, put, houseAt, putHouse, present, lamp, appliance, member, preset, withLevel, withAddressed, withHeard, regroup}
+use Rattle.record.specs.Layout.{RECORDS, UNITS, HOUSES, TABLE-BYTES, recordAt, put, houseAt, putHouse, present, lamp, appliance, member, preset, withLevel, withAddressed, regroup}
 
 -- ---- The rules of a valid table
 
@@ -108,8 +108,8 @@ joined g x r = regroup (λ k. eqb g k || member k r) (λ k. pick (eqb g k) x (pr
 unfoldable pub left : ℕ → Record → Record
 left gs r = regroup (λ k. member k r && not (bit k gs)) (λ k. pick (bit k gs) 0 (preset k r)) r
 
--- what an act does to the record of unit n, by the house's own bytes, if a module is there; "Address: if the house byte is 1, the whole house
--- becomes unaddressed ..; then that unit .. is addressed."
+-- what an act does to the record of unit n, by the house's own bytes, if a module is there; "Address: if the house byte is 1, the
+-- whole house becomes unaddressed ..; then that unit .. is addressed."
 abbrev pub acted : Act → House → ℕ → Record → Record
 acted Nothing own n r = r
 acted (Address u) own n r = withAddressed (pick (eqb n u) 1 (pick (eqb (own .heard) 1) 0 (r .addressed))) r
@@ -134,21 +134,24 @@ stepRecord a own n r = pick (present r) (acted a own n r) r
 
 -- "if the house byte is 1, .. the byte 0"; "Each function sets the house byte to 1 after acting."; the extended commands "never
 -- touch addressing or house bytes"
+abbrev pub heardAfter : Act → ℕ → ℕ
+heardAfter Nothing x = x
+heardAfter (Address u) x = 0
+heardAfter (Obey f) x = 1
+heardAfter (Join u g) x = x
+heardAfter (Level u b) x = x
+heardAfter (JoinAt u g b) x = x
+heardAfter UnitsOn x = x
+heardAfter UnitsOff x = x
+heardAfter (Leave u gs) x = x
+heardAfter (LeaveHouse gs) x = x
+heardAfter (Execute g) x = x
+heardAfter (GroupOff g) x = x
+heardAfter (GroupDim g) x = x
+heardAfter (GroupBright g) x = x
+
 abbrev pub houseAfter : Act → House → House
-houseAfter Nothing own = own
-houseAfter (Address u) own = withHeard 0 own
-houseAfter (Obey f) own = withHeard 1 own
-houseAfter (Join u g) own = own
-houseAfter (Level u b) own = own
-houseAfter (JoinAt u g b) own = own
-houseAfter UnitsOn own = own
-houseAfter UnitsOff own = own
-houseAfter (Leave u gs) own = own
-houseAfter (LeaveHouse gs) own = own
-houseAfter (Execute g) own = own
-houseAfter (GroupOff g) own = own
-houseAfter (GroupDim g) own = own
-houseAfter (GroupBright g) own = own
+houseAfter a own = record { heard = heardAfter a (own .heard) }
 
 -- ---- What it does to the table
 

@@ -8,10 +8,10 @@ use plan::Act;
 use plan::bit_of;
 ghost use mathlib.Core.Path.{_≡_};
 ghost use mathlib.Core.Bool.{Bool};
-ghost use Prim.Native.Nat.{_≤_};
+ghost use Prim.Native.Nat.{_≤_, min};
 ghost use Rattle.ground.specs.Choice.{pick};
 ghost use Rattle.record.specs.Layout.{maskOf, withLevel, withAddressed};
-ghost use Rattle.record.specs.ModuleTable.{relevel, lit, dimmed, brightened, obeyed, levelFor, joined, left, acted, stepRecord, houseAfter};
+ghost use Rattle.record.specs.ModuleTable.{relevel, lit, dimmed, brightened, obeyed, levelFor, joined, left, acted, stepRecord, heardAfter, houseAfter};
 
 fn at_level(x: u8, r: Record) -> Record
     ensures { λ s. ⌜ s ≡ withLevel x r ⌝ }
@@ -93,11 +93,18 @@ fn obey(f: Function, r: Record) -> Record
     }
 }
 
-// The level that a module takes where x is asked: for an appliance all or nothing, and never above 63.
+// A number above 63 as 63.
+fn at_most_63(x: u8) -> u8
+    ensures { λ l. ⌜ l ≡ min 63 x ⌝ }
+{
+    if x < 63 { x } else { 63 }
+}
+
+// The level that a module takes where x is asked: for an appliance all or nothing.
 fn level_asked(x: u8, r: Record) -> u8
     ensures { λ l. ⌜ l ≡ levelFor x r ⌝ }
 {
-    choose((r.kind == 2) & !(x == 0), 63, choose(x <= 63, x, 63))
+    choose((r.kind == 2) & !(x == 0), 63, at_most_63(x))
 }
 
 // A bit of a mask.
@@ -209,28 +216,37 @@ pub fn step(act: Act, house: House, n: u8, r: Record) -> Record
     choose_record(!(r.kind == 0), act_on(act, house, n, r), r)
 }
 
-// A house's own bytes after an act.
-pub fn house_after(act: Act, house: House) -> House
-    ensures { λ s. ⌜ s ≡ houseAfter act house ⌝ }
+// The "command heard" byte after an act, where it was x before.
+fn heard_after(act: Act, x: u8) -> u8
+    ensures { λ y. ⌜ y ≡ heardAfter act x ⌝ }
 {
     match act {
-        Act::Nothing => house,
-        Act::Address { unit: _ } => House { heard: 0 },
-        Act::Obey(_) => House { heard: 1 },
-        Act::Join { unit: _, group: _ } => house,
-        Act::Level { unit: _, level: _ } => house,
+        Act::Nothing => x,
+        Act::Address { unit: _ } => 0,
+        Act::Obey(_) => 1,
+        Act::Join { unit: _, group: _ } => x,
+        Act::Level { unit: _, level: _ } => x,
         Act::JoinAt {
             unit: _,
             group: _,
             level: _,
-        } => house,
-        Act::UnitsOn => house,
-        Act::UnitsOff => house,
-        Act::Leave { unit: _, groups: _ } => house,
-        Act::LeaveHouse { groups: _ } => house,
-        Act::Execute { group: _ } => house,
-        Act::GroupOff { group: _ } => house,
-        Act::GroupDim { group: _ } => house,
-        Act::GroupBright { group: _ } => house,
+        } => x,
+        Act::UnitsOn => x,
+        Act::UnitsOff => x,
+        Act::Leave { unit: _, groups: _ } => x,
+        Act::LeaveHouse { groups: _ } => x,
+        Act::Execute { group: _ } => x,
+        Act::GroupOff { group: _ } => x,
+        Act::GroupDim { group: _ } => x,
+        Act::GroupBright { group: _ } => x,
+    }
+}
+
+// A house's own bytes after an act.
+pub fn house_after(act: Act, house: House) -> House
+    ensures { λ s. ⌜ s ≡ houseAfter act house ⌝ }
+{
+    House {
+        heard: heard_after(act, house.heard),
     }
 }

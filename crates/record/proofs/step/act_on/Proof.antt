@@ -130,7 +130,7 @@ returns : tie.Need-returns
 returns c = simp (c .enum-told .given .1)
 
 returns-2 : tie.Need-returns-2
-returns-2 c = simp (c .addressed-as .ensures, c .before .choose2 .ensures, c .before .before .choose .ensures, c .before .before .before .before .act .given .1)
+returns-2 c = simp (c .addressed-as .ensures, c .before .choose2 .ensures, c .before .before .choose .ensures, c .before .before .before .before .before .act .given .1)
 
 returns-3 : tie.Need-returns-3
 returns-3 c = simp (c .obey .ensures, c .before .before .act2 .given .1)
