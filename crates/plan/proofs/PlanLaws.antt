@@ -79,7 +79,8 @@ answer-valid : (m : Message) → messageOk m ≡ true → planAnswer m ≡ planO
 unfolding planAnswer judged
 answer-valid m t = rw t (sym (plan-rest m))
 
-pub answer-refused : (m : Message) (why : Refusal) → messageOk m ≡ true → planAnswer m ≡ Refused why → (carried m ≡ false) × (why ≡ refusal.NotCarried)
+pub answer-refused : (m : Message) (why : Refusal) → messageOk m ≡ true → planAnswer m ≡ Refused why
+    → (carried m ≡ false) × (why ≡ refusal.NotCarried)
 unfolding judged
 answer-refused m why t e =
     let p : planOf m ≡ Refused why = sym (answer-valid m t) ∙ e in

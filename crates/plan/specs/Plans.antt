@@ -10,7 +10,8 @@ use Rattle.message.specs.Messages.{messageOk}
 use Rattle.message.specs.declared.Message.{Message}
 use Rattle.message.specs.declared.Message.the-variants.{Address as Calls, Function as Command, Extended}
 use Rattle.plan.specs.declared.Act.{Act}
-use Rattle.plan.specs.declared.Act.the-variants.{Nothing, Address, Obey, Join, Level, JoinAt, UnitsOn, UnitsOff, Leave, LeaveHouse, Execute, GroupOff, GroupDim, GroupBright}
+use Rattle.plan.specs.declared.Act.the-variants.{Nothing, Address, Obey, Join, Level, JoinAt, UnitsOn, UnitsOff}
+use Rattle.plan.specs.declared.Act.the-variants.{Leave, LeaveHouse, Execute, GroupOff, GroupDim, GroupBright}
 use Rattle.plan.specs.declared.Plan.{Plan}
 use Rattle.plan.specs.declared.Plan.the-variants.{Run, Refused}
 

@@ -14,14 +14,17 @@ use lib.Dec.{eqb, leb}
 use Rattle.ground.specs.Choice.{pick}
 use Rattle.ground.proofs.Choices.{pick-both, both}
 use Rattle.message.specs.declared.Function.{Function}
-use Rattle.message.specs.declared.Function.the-variants.{AllUnitsOff, AllLightsOn, On, Off, Dim, Bright, AllLightsOff, HailRequest, HailAcknowledge, StatusOn, StatusOff, StatusRequest}
+use Rattle.message.specs.declared.Function.the-variants.{AllUnitsOff, AllLightsOn, On, Off, Dim, Bright, AllLightsOff}
+use Rattle.message.specs.declared.Function.the-variants.{HailRequest, HailAcknowledge, StatusOn, StatusOff, StatusRequest}
 use Rattle.plan.specs.Plans.{bit}
 use Rattle.plan.specs.declared.Act.{Act}
-use Rattle.plan.specs.declared.Act.the-variants.{Nothing, Address, Obey, Join, Level, JoinAt, UnitsOn, UnitsOff, Leave, LeaveHouse, Execute, GroupOff, GroupDim, GroupBright}
+use Rattle.plan.specs.declared.Act.the-variants.{Nothing, Address, Obey, Join, Level, JoinAt, UnitsOn, UnitsOff}
+use Rattle.plan.specs.declared.Act.the-variants.{Leave, LeaveHouse, Execute, GroupOff, GroupDim, GroupBright}
 use Rattle.record.specs.declared.Record.{Record}
 use Rattle.record.specs.declared.House.{House}
 use Rattle.record.specs.Layout.{present, lamp, appliance, member, preset, maskOf, withLevel, withAddressed, regroup}
-use Rattle.record.specs.ModuleTable.{levelOk, presetOk, allZeros, recordOk, relevel, lit, dimmed, brightened, addressed, obeyed, levelFor, joined, left, acted, stepRecord, houseOk, houseAfter}
+use Rattle.record.specs.ModuleTable.{levelOk, presetOk, allZeros, recordOk, houseOk, relevel, lit, dimmed, brightened, addressed, obeyed}
+use Rattle.record.specs.ModuleTable.{levelFor, joined, left, acted, stepRecord, houseAfter}
 use Rattle.record.specs.Statements.{RecordStaysValid, HouseStaysValid, AbsentStays}
 
 -- ---- the rules, one by one
@@ -81,7 +84,10 @@ good r e =
 pub good-is-ok : (r : Record) → Good r → recordOk r ≡ true
 unfolding recordOk
 good-is-ok r g =
-    both (both (both (both (both (both (both (both (g .kind) (g .level)) (g .mark)) (g .mask)) (g .groups 0 (omega arith))) (g .groups 1 (omega arith))) (g .groups 2 (omega arith))) (g .groups 3 (omega arith))) (g .zeros)
+    let first = both (both (both (g .kind) (g .level)) (g .mark)) (g .mask) in
+    let two = both (both first (g .groups 0 (omega arith))) (g .groups 1 (omega arith)) in
+    let four = both (both two (g .groups 2 (omega arith))) (g .groups 3 (omega arith)) in
+    both four (g .zeros)
 
 -- ---- levels that a module can have
 
@@ -149,7 +155,7 @@ module _ (r : Record) (g : Good r) (here : present r ≡ true) where
       record { kind = g .kind; level = g .level; mark = h; mask = g .mask; groups = g .groups; zeros = rw here }
 
 -- the bits of a mask, told one by one
-mask-bits : (a b c d : Bool) → (leb (maskOf a b c d) 15 ≡ true) × (bit 0 (maskOf a b c d) ≡ a) × (bit 1 (maskOf a b c d) ≡ b) × (bit 2 (maskOf a b c d) ≡ c) × (bit 3 (maskOf a b c d) ≡ d)
+mask-bits : (a b c d : Bool) → let m = maskOf a b c d in (leb m 15 ≡ true) × (bit 0 m ≡ a) × (bit 1 m ≡ b) × (bit 2 m ≡ c) × (bit 3 m ≡ d)
 mask-bits true true true true = (refl, refl, refl, refl, refl)
 mask-bits true true true false = (refl, refl, refl, refl, refl)
 mask-bits true true false true = (refl, refl, refl, refl, refl)

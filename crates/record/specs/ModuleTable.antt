@@ -8,16 +8,19 @@ use lib.Dec.{eqb, leb}
 use lib.ListN.{length}
 use Rattle.ground.specs.Choice.{pick}
 use Rattle.message.specs.declared.Function.{Function}
-use Rattle.message.specs.declared.Function.the-variants.{AllUnitsOff, AllLightsOn, On, Off, Dim, Bright, AllLightsOff, HailRequest, HailAcknowledge, StatusOn, StatusOff, StatusRequest}
+use Rattle.message.specs.declared.Function.the-variants.{AllUnitsOff, AllLightsOn, On, Off, Dim, Bright, AllLightsOff}
+use Rattle.message.specs.declared.Function.the-variants.{HailRequest, HailAcknowledge, StatusOn, StatusOff, StatusRequest}
 use Rattle.message.specs.declared.Message.{Message}
 use Rattle.plan.specs.declared.Act.{Act}
-use Rattle.plan.specs.declared.Act.the-variants.{Nothing, Address, Obey, Join, Level, JoinAt, UnitsOn, UnitsOff, Leave, LeaveHouse, Execute, GroupOff, GroupDim, GroupBright}
+use Rattle.plan.specs.declared.Act.the-variants.{Nothing, Address, Obey, Join, Level, JoinAt, UnitsOn, UnitsOff}
+use Rattle.plan.specs.declared.Act.the-variants.{Leave, LeaveHouse, Execute, GroupOff, GroupDim, GroupBright}
 use Rattle.plan.specs.declared.Plan.{Plan}
 use Rattle.plan.specs.declared.Plan.the-variants.{Run, Refused}
 use Rattle.plan.specs.Plans.{bit, houseOf}
 use Rattle.record.specs.declared.Record.{Record}
 use Rattle.record.specs.declared.House.{House}
-use Rattle.record.specs.Layout.{RECORDS, UNITS, HOUSES, TABLE-BYTES, recordAt, put, houseAt, putHouse, present, lamp, appliance, member, preset, withLevel, withAddressed, regroup}
+use Rattle.record.specs.Layout.{RECORDS, UNITS, HOUSES, TABLE-BYTES, recordAt, put, houseAt, putHouse}
+use Rattle.record.specs.Layout.{present, lamp, appliance, member, preset, withLevel, withAddressed, regroup}
 
 -- ---- The rules of a valid table
 

@@ -89,7 +89,16 @@ pub fn valid(
     preset2: u8,
     preset3: u8,
 ) -> bool
-    ensures { λ b. ⌜ b ≡ recordOk (record { kind = kind; level = level; addressed = addressed; mask = mask; preset0 = preset0; preset1 = preset1; preset2 = preset2; preset3 = preset3 }) ⌝ }
+    ensures { λ b. ⌜ b ≡ recordOk (record {
+      kind = kind;
+      level = level;
+      addressed = addressed;
+      mask = mask;
+      preset0 = preset0;
+      preset1 = preset1;
+      preset2 = preset2;
+      preset3 = preset3;
+    }) ⌝ }
 {
     let zeros = (level == 0)
         & (addressed == 0)

@@ -58,11 +58,37 @@ returns-9 c = simp (c .before .match .keys9, c .status-plan .ensures)
 
 returns-10 : tie.Need-returns-10
 unfolding extendedPlan
-returns-10 c = simp (ne-eqb _ _ (c .before .match .rest .0 .0 .0 .0 .0 .0 .0 .0 .1), ne-eqb _ _ (c .before .match .rest .0 .0 .0 .0 .0 .0 .0 .1), ne-eqb _ _ (c .before .match .rest .0 .0 .0 .0 .0 .0 .1), ne-eqb _ _ (c .before .match .rest .0 .0 .0 .0 .0 .1), ne-eqb _ _ (c .before .match .rest .0 .0 .0 .0 .1), ne-eqb _ _ (c .before .match .rest .0 .0 .0 .1), ne-eqb _ _ (c .before .match .rest .0 .0 .1), ne-eqb _ _ (c .before .match .rest .0 .1), ne-eqb _ _ (c .before .match .rest .1), c .if1 .taken)
+returns-10 c =
+    let rest = c .before .match .rest in
+    simp (
+      ne-eqb _ _ (rest .0 .0 .0 .0 .0 .0 .0 .0 .1),
+      ne-eqb _ _ (rest .0 .0 .0 .0 .0 .0 .0 .1),
+      ne-eqb _ _ (rest .0 .0 .0 .0 .0 .0 .1),
+      ne-eqb _ _ (rest .0 .0 .0 .0 .0 .1),
+      ne-eqb _ _ (rest .0 .0 .0 .0 .1),
+      ne-eqb _ _ (rest .0 .0 .0 .1),
+      ne-eqb _ _ (rest .0 .0 .1),
+      ne-eqb _ _ (rest .0 .1),
+      ne-eqb _ _ (rest .1),
+      c .if1 .taken,
+    )
 
 returns-11 : tie.Need-returns-11
 unfolding extendedPlan
-returns-11 c = simp (ne-eqb _ _ (c .before .match .rest .0 .0 .0 .0 .0 .0 .0 .0 .1), ne-eqb _ _ (c .before .match .rest .0 .0 .0 .0 .0 .0 .0 .1), ne-eqb _ _ (c .before .match .rest .0 .0 .0 .0 .0 .0 .1), ne-eqb _ _ (c .before .match .rest .0 .0 .0 .0 .0 .1), ne-eqb _ _ (c .before .match .rest .0 .0 .0 .0 .1), ne-eqb _ _ (c .before .match .rest .0 .0 .0 .1), ne-eqb _ _ (c .before .match .rest .0 .0 .1), ne-eqb _ _ (c .before .match .rest .0 .1), ne-eqb _ _ (c .before .match .rest .1), c .if1 .left)
+returns-11 c =
+    let rest = c .before .match .rest in
+    simp (
+      ne-eqb _ _ (rest .0 .0 .0 .0 .0 .0 .0 .0 .1),
+      ne-eqb _ _ (rest .0 .0 .0 .0 .0 .0 .0 .1),
+      ne-eqb _ _ (rest .0 .0 .0 .0 .0 .0 .1),
+      ne-eqb _ _ (rest .0 .0 .0 .0 .0 .1),
+      ne-eqb _ _ (rest .0 .0 .0 .0 .1),
+      ne-eqb _ _ (rest .0 .0 .0 .1),
+      ne-eqb _ _ (rest .0 .0 .1),
+      ne-eqb _ _ (rest .0 .1),
+      ne-eqb _ _ (rest .1),
+      c .if1 .left,
+    )
 
 pub extended-plan-spec : {M : Type 1} → statement M
 extended-plan-spec =
