@@ -1,32 +1,31 @@
--- Laws of one record: whatever the act, a record that keeps the rules keeps them.
+-- Laws of one record and of a house's own bytes: whatever the act, what keeps the rules keeps them.
 --
---     pick-both                     what holds of both values holds of the chosen one
 --     Good, good, good-is-ok        the rules of a record, one by one
---     full-ok, dark-ok, lit-ok, dimmed-ok, brightened-ok, levelB-ok, preset-ok     levels that a module can have
+--     full-ok, dark-ok, lit-ok, dimmed-ok, brightened-ok, levelFor-ok, preset-ok     levels that a module can have
 --     relevel-good, readdress-good, regroup-good                                   the three ways in which a record changes
 --     joined-good, left-good, obeyed-good, acted-good
---     record-stays-valid            the law
+--     record-stays-valid, house-stays-valid, absent-stays                          RecordStaysValid, HouseStaysValid, AbsentStays
 use mathlib.Core.Path.{_≡_, refl}
 use mathlib.Core.Bool.{Bool, true, false, not, _&&_, _||_, and-eq-true-iff, or-true, and-true}
-use Prim.Native.Nat.{ℕ, zero, suc, _-_, _%_, _≤_, _<_}
+use Prim.Native.Nat.{ℕ, zero, suc, _-_, _≤_, _<_, min}
 use native.Mathlib.Omega.{arith}
 use borrow.Author.Tests.{leb-true, eqb-true, le-leb}
 use lib.Dec.{eqb, leb}
 use Rattle.ground.specs.Choice.{pick}
+use Rattle.ground.proofs.Choices.{pick-both, both}
 use Rattle.message.specs.declared.Function.{Function}
-use Rattle.message.specs.declared.Function.the-variants.{AllUnitsOff, AllLightsOn, On, Off, Dim, Bright, AllLightsOff, HailRequest, HailAcknowledge, StatusOn, StatusOff, StatusRequest}
+use Rattle.message.specs.declared.Function.the-variants.{AllUnitsOff, AllLightsOn, On, Off, Dim, Bright, AllLightsOff}
+use Rattle.message.specs.declared.Function.the-variants.{HailRequest, HailAcknowledge, StatusOn, StatusOff, StatusRequest}
+use Rattle.plan.specs.Plans.{bit}
+use Rattle.plan.specs.declared.Act.{Act}
+use Rattle.plan.specs.declared.Act.the-variants.{Nothing, Address, Obey, Join, Level, JoinAt, UnitsOn, UnitsOff}
+use Rattle.plan.specs.declared.Act.the-variants.{Leave, LeaveHouse, Execute, GroupOff, GroupDim, GroupBright}
 use Rattle.record.specs.declared.Record.{Record}
-use Rattle.record.specs.declared.Act.{Act}
-use Rattle.record.specs.declared.Act.the-variants.{Nothing, Address, Obey, Join, Level, JoinAt, UnitsOn, UnitsOff, Leave, LeaveHouse, Execute, GroupOff, GroupDim, GroupBright}
-use Rattle.record.specs.Layout.{present, lamp, appliance, bit, member, preset, maskOf, withLevel, withAddressed, regroup}
-use Rattle.record.specs.ModuleTable.{levelOk, presetOk, allZeros, recordOk, relevel, lit, dimmed, brightened, addressed, obeyed, group, levelB, joined, left, acted, stepRecord}
-
-pub pick-both {ℓ} : {A : Type 0} (P : A → Type ℓ) (b : Bool) (x y : A) → P x → P y → P (pick b x y)
-pick-both P true x y px py = px
-pick-both P false x y px py = py
-
-both : {a b : Bool} → a ≡ true → b ≡ true → (a && b) ≡ true
-both {a} {b} p q = and-eq-true-iff a b .1 (p, q)
+use Rattle.record.specs.declared.House.{House}
+use Rattle.record.specs.Layout.{present, lamp, appliance, member, preset, maskOf, withLevel, withAddressed, regroup}
+use Rattle.record.specs.ModuleTable.{levelOk, presetOk, allZeros, recordOk, houseOk, relevel, lit, dimmed, brightened, addressed, obeyed}
+use Rattle.record.specs.ModuleTable.{levelFor, joined, left, acted, stepRecord, houseAfter}
+use Rattle.record.specs.Statements.{RecordStaysValid, HouseStaysValid, AbsentStays}
 
 -- ---- the rules, one by one
 
@@ -85,7 +84,10 @@ good r e =
 pub good-is-ok : (r : Record) → Good r → recordOk r ≡ true
 unfolding recordOk
 good-is-ok r g =
-    both (both (both (both (both (both (both (both (g .kind) (g .level)) (g .mark)) (g .mask)) (g .groups 0 (omega arith))) (g .groups 1 (omega arith))) (g .groups 2 (omega arith))) (g .groups 3 (omega arith))) (g .zeros)
+    let first = both (both (both (g .kind) (g .level)) (g .mark)) (g .mask) in
+    let two = both (both first (g .groups 0 (omega arith))) (g .groups 1 (omega arith)) in
+    let four = both (both two (g .groups 2 (omega arith))) (g .groups 3 (omega arith)) in
+    both four (g .zeros)
 
 -- ---- levels that a module can have
 
@@ -118,14 +120,14 @@ dimmed-ok r e h =
 pub brightened-ok : (r : Record) → lamp r ≡ true → levelOk (r .kind) (brightened (r .level)) ≡ true
 brightened-ok r e = lamp-ok r (brightened (r .level)) e (omega arith)
 
-pub levelB-ok : (d : ℕ) (r : Record) → levelOk (r .kind) (levelB d r) ≡ true
-levelB-ok d r = go (appliance r) refl (eqb (d % 64) 0) refl
+pub levelFor-ok : (b : ℕ) (r : Record) → levelOk (r .kind) (levelFor b r) ≡ true
+levelFor-ok b r = go (appliance r) refl (eqb b 0) refl
   where
-    low : leb (d % 64) 63 ≡ true
-    low = le-leb (d % 64) 63 (omega arith)
+    low : leb (min 63 b) 63 ≡ true
+    low = le-leb (min 63 b) 63 (omega arith)
 
-    go : (a : Bool) → appliance r ≡ a → (z : Bool) → eqb (d % 64) 0 ≡ z → levelOk (r .kind) (levelB d r) ≡ true
-    go true e true z = simp (e, z, low)
+    go : (a : Bool) → appliance r ≡ a → (z : Bool) → eqb b 0 ≡ z → levelOk (r .kind) (levelFor b r) ≡ true
+    go true e true z = let none : min 63 b ≡ 0 = omega (arith, eqb-true b 0 z) in simp (e, z, none)
     go true e false z = simp (e, z)
     go false e z f = simp (e, low)
 
@@ -153,7 +155,7 @@ module _ (r : Record) (g : Good r) (here : present r ≡ true) where
       record { kind = g .kind; level = g .level; mark = h; mask = g .mask; groups = g .groups; zeros = rw here }
 
 -- the bits of a mask, told one by one
-mask-bits : (a b c d : Bool) → (leb (maskOf a b c d) 15 ≡ true) × (bit 0 (maskOf a b c d) ≡ a) × (bit 1 (maskOf a b c d) ≡ b) × (bit 2 (maskOf a b c d) ≡ c) × (bit 3 (maskOf a b c d) ≡ d)
+mask-bits : (a b c d : Bool) → let m = maskOf a b c d in (leb m 15 ≡ true) × (bit 0 m ≡ a) × (bit 1 m ≡ b) × (bit 2 m ≡ c) × (bit 3 m ≡ d)
 mask-bits true true true true = (refl, refl, refl, refl, refl)
 mask-bits true true true false = (refl, refl, refl, refl, refl)
 mask-bits true true false true = (refl, refl, refl, refl, refl)
@@ -202,11 +204,11 @@ module _ (r : Record) (g : Good r) (here : present r ≡ true) where
       go k true e = rw h
       go k false e = e
 
-  pub left-good : (d : ℕ) → Good (left d r)
+  pub left-good : (gs : ℕ) → Good (left gs r)
   unfolding left
-  left-good d =
-      regroup-good (λ k. member k r && not (bit k d)) (λ k. pick (bit k d) 0 (preset k r))
-      (λ k hk. go k (bit k d) (g .groups k hk))
+  left-good gs =
+      regroup-good (λ k. member k r && not (bit k gs)) (λ k. pick (bit k gs) 0 (preset k r))
+      (λ k hk. go k (bit k gs) (g .groups k hk))
     where
       go : (k : ℕ) (b : Bool) → groupOk k r ≡ true → presetOk (r .kind) (member k r && not b) (pick b 0 (preset k r)) ≡ true
       go k true e = both (dark-ok r) (or-true (member k r && false))
@@ -232,33 +234,55 @@ module _ (r : Record) (g : Good r) (here : present r ≡ true) where
   obeyed-good StatusOff = g
   obeyed-good StatusRequest = g
 
-  pub acted-good : (a : Act) (n : ℕ) → Good (acted a n r)
-  acted-good Nothing n = g
-  acted-good (Address u anew) n =
-      readdress-good r g here (pick (eqb n u) 1 (pick anew 0 (r .addressed)))
-      (pick-both (λ x. leb x 1 ≡ true) (eqb n u) 1 (pick anew 0 (r .addressed)) refl
-      (pick-both (λ x. leb x 1 ≡ true) anew 0 (r .addressed) refl (g .mark)))
-  acted-good (Obey f) n = obeyed-good f
-  acted-good (Join u d) n = pick-both Good (eqb n u) _ _ (joined-good (group d) (r .level) (g .level)) g
-  acted-good (Level u d) n = relevel-good r g here (eqb n u) (levelB d r) (λ e. levelB-ok d r)
-  acted-good (JoinAt u d) n = pick-both Good (eqb n u) _ _ (joined-good (group d) (levelB d r) (levelB-ok d r)) g
-  acted-good UnitsOn n = relevel-good r g here true 63 (λ e. full-ok r)
-  acted-good UnitsOff n = relevel-good r g here true 0 (λ e. dark-ok r)
-  acted-good (Leave u d) n = pick-both Good (eqb n u) _ _ (left-good d) g
-  acted-good (LeaveHouse d) n = left-good d
-  acted-good (Execute d) n = relevel-good r g here (member (group d) r) (preset (group d) r) (λ e. preset-ok r g (group d))
-  acted-good (GroupOff d) n = relevel-good r g here (member (group d) r) 0 (λ e. dark-ok r)
-  acted-good (GroupDim d) n =
-      relevel-good r g here (member (group d) r && lamp r) (dimmed (r .level))
-      (λ e. dimmed-ok r (and-eq-true-iff (member (group d) r) (lamp r) .0 e .1) (g .level))
-  acted-good (GroupBright d) n =
-      relevel-good r g here (member (group d) r && lamp r) (brightened (r .level))
-      (λ e. brightened-ok r (and-eq-true-iff (member (group d) r) (lamp r) .0 e .1))
+  pub acted-good : (a : Act) (own : House) (n : ℕ) → Good (acted a own n r)
+  acted-good Nothing own n = g
+  acted-good (Address u) own n =
+      readdress-good r g here (pick (eqb n u) 1 (pick (eqb (own .heard) 1) 0 (r .addressed)))
+      (pick-both (λ x. leb x 1 ≡ true) (eqb n u) 1 (pick (eqb (own .heard) 1) 0 (r .addressed)) refl
+      (pick-both (λ x. leb x 1 ≡ true) (eqb (own .heard) 1) 0 (r .addressed) refl (g .mark)))
+  acted-good (Obey f) own n = obeyed-good f
+  acted-good (Join u j) own n = pick-both Good (eqb n u) _ _ (joined-good j (r .level) (g .level)) g
+  acted-good (Level u b) own n = relevel-good r g here (eqb n u) (levelFor b r) (λ e. levelFor-ok b r)
+  acted-good (JoinAt u j b) own n = pick-both Good (eqb n u) _ _ (joined-good j (levelFor b r) (levelFor-ok b r)) g
+  acted-good UnitsOn own n = relevel-good r g here true 63 (λ e. full-ok r)
+  acted-good UnitsOff own n = relevel-good r g here true 0 (λ e. dark-ok r)
+  acted-good (Leave u gs) own n = pick-both Good (eqb n u) _ _ (left-good gs) g
+  acted-good (LeaveHouse gs) own n = left-good gs
+  acted-good (Execute j) own n = relevel-good r g here (member j r) (preset j r) (λ e. preset-ok r g j)
+  acted-good (GroupOff j) own n = relevel-good r g here (member j r) 0 (λ e. dark-ok r)
+  acted-good (GroupDim j) own n =
+      relevel-good r g here (member j r && lamp r) (dimmed (r .level))
+      (λ e. dimmed-ok r (and-eq-true-iff (member j r) (lamp r) .0 e .1) (g .level))
+  acted-good (GroupBright j) own n =
+      relevel-good r g here (member j r && lamp r) (brightened (r .level))
+      (λ e. brightened-ok r (and-eq-true-iff (member j r) (lamp r) .0 e .1))
 
-pub record-stays-valid : (a : Act) (n : ℕ) (r : Record) → recordOk r ≡ true → recordOk (stepRecord a n r) ≡ true
+pub absent-stays : AbsentStays
 unfolding stepRecord
-record-stays-valid a n r e = go (present r) refl
+absent-stays a own n r gone = rw gone
+
+pub record-stays-valid : RecordStaysValid
+unfolding stepRecord
+record-stays-valid a own n r e = go (present r) refl
   where
-    go : (b : Bool) → present r ≡ b → recordOk (pick b (acted a n r) r) ≡ true
-    go true here = good-is-ok (acted a n r) (acted-good r (good r e) here a n)
+    go : (b : Bool) → present r ≡ b → recordOk (pick b (acted a own n r) r) ≡ true
+    go true here = good-is-ok (acted a own n r) (acted-good r (good r e) here a own n)
     go false gone = e
+
+-- ---- a house's own bytes
+
+pub house-stays-valid : HouseStaysValid
+house-stays-valid Nothing own e = e
+house-stays-valid (Address u) own e = refl
+house-stays-valid (Obey f) own e = refl
+house-stays-valid (Join u g) own e = e
+house-stays-valid (Level u b) own e = e
+house-stays-valid (JoinAt u g b) own e = e
+house-stays-valid UnitsOn own e = e
+house-stays-valid UnitsOff own e = e
+house-stays-valid (Leave u gs) own e = e
+house-stays-valid (LeaveHouse gs) own e = e
+house-stays-valid (Execute g) own e = e
+house-stays-valid (GroupOff g) own e = e
+house-stays-valid (GroupDim g) own e = e
+house-stays-valid (GroupBright g) own e = e

@@ -1,15 +1,15 @@
 -- Where the bytes of a table lie, and a record with some of its fields changed. No rule of 01 but the sizes and the order of the
 -- bytes stands here: "2,064 lent bytes: 256 records of 8 in order A1..P16, then one "command heard" byte per house."
-use Prim.Native.Nat.{ℕ, _+_, _*_, _/_, _%_, _^_}
+use Prim.Native.Nat.{ℕ, _+_, _*_}
 use mathlib.Core.Bool.{Bool, not}
 use mathlib.Core.List.{List, [], _∷_}
 use lib.Dec.{eqb}
-use lib.ListN.{getD}
+use lib.ListN.{getD, set}
 use lib.Seq.{sets}
 use Rattle.ground.specs.Choice.{pick}
-use Rattle.message.specs.declared.Message.{Message}
-use Rattle.message.specs.declared.Message.the-variants.{Address, Function as Command, Extended}
+use Rattle.plan.specs.Plans.{bit}
 use Rattle.record.specs.declared.Record.{Record}
+use Rattle.record.specs.declared.House.{House}
 
 abbrev pub RECORD-BYTES : ℕ
 RECORD-BYTES = 8
@@ -26,20 +26,26 @@ RECORDS = HOUSES * UNITS
 abbrev pub HEARD-AT : ℕ
 HEARD-AT = RECORDS * RECORD-BYTES
 
-abbrev pub TABLE-BYTES : ℕ
-TABLE-BYTES = HEARD-AT + HOUSES
+abbrev pub HOUSE-BYTES : ℕ
+HOUSE-BYTES = 1
 
--- the house that a message is for
-abbrev pub houseOf : Message → ℕ
-houseOf (Address h u) = h
-houseOf (Command h f) = h
-houseOf (Extended h u d c) = h
+abbrev pub TABLE-BYTES : ℕ
+TABLE-BYTES = HEARD-AT + HOUSES * HOUSE-BYTES
 
 -- "Record: kind .., level .., addressed .., group mask .., four presets": record i of a table, and a record put there
 unfoldable pub recordAt : List ℕ → ℕ → Record
 recordAt t i =
     let at = i * RECORD-BYTES in
-    record { kind = getD t at 0; level = getD t (at + 1) 0; addressed = getD t (at + 2) 0; mask = getD t (at + 3) 0; preset0 = getD t (at + 4) 0; preset1 = getD t (at + 5) 0; preset2 = getD t (at + 6) 0; preset3 = getD t (at + 7) 0 }
+    record {
+      kind = getD t at 0;
+      level = getD t (at + 1) 0;
+      addressed = getD t (at + 2) 0;
+      mask = getD t (at + 3) 0;
+      preset0 = getD t (at + 4) 0;
+      preset1 = getD t (at + 5) 0;
+      preset2 = getD t (at + 6) 0;
+      preset3 = getD t (at + 7) 0;
+    }
 
 abbrev pub bytesOf : Record → List ℕ
 bytesOf r = r .kind ∷ r .level ∷ r .addressed ∷ r .mask ∷ r .preset0 ∷ r .preset1 ∷ r .preset2 ∷ r .preset3 ∷ []
@@ -47,9 +53,12 @@ bytesOf r = r .kind ∷ r .level ∷ r .addressed ∷ r .mask ∷ r .preset0 ∷
 unfoldable pub put : List ℕ → ℕ → Record → List ℕ
 put t i r = sets t (i * RECORD-BYTES) (bytesOf r)
 
--- the "command heard" byte of a house
-abbrev pub heardAt : List ℕ → ℕ → ℕ
-heardAt t h = getD t (HEARD-AT + h) 0
+-- "one "command heard" byte per house": the bytes of house h beside its records', and such bytes put there
+unfoldable pub houseAt : List ℕ → ℕ → House
+houseAt t h = record { heard = getD t (HEARD-AT + h) 0 }
+
+unfoldable pub putHouse : List ℕ → ℕ → House → List ℕ
+putHouse t h own = set t (HEARD-AT + h) (own .heard)
 
 -- "kind (0 none, 1 lamp, 2 appliance)"
 abbrev pub present : Record → Bool
@@ -61,10 +70,7 @@ lamp r = eqb (r .kind) 1
 abbrev pub appliance : Record → Bool
 appliance r = eqb (r .kind) 2
 
--- bit k of a byte; "group mask 0..15 (bit g for group g)"; the preset of a group
-abbrev pub bit : ℕ → ℕ → Bool
-bit k x = eqb (x / 2 ^ k % 2) 1
-
+-- "group mask 0..15 (bit g for group g)"; the preset of a group
 abbrev pub member : ℕ → Record → Bool
 member g r = bit g (r .mask)
 
@@ -74,11 +80,29 @@ preset g r = pick (eqb g 0) (r .preset0) (pick (eqb g 1) (r .preset1) (pick (eqb
 -- the record with its level, or its mark of being addressed, changed to x
 abbrev pub withLevel : ℕ → Record → Record
 withLevel x r =
-    record { kind = r .kind; level = x; addressed = r .addressed; mask = r .mask; preset0 = r .preset0; preset1 = r .preset1; preset2 = r .preset2; preset3 = r .preset3 }
+    record {
+      kind = r .kind;
+      level = x;
+      addressed = r .addressed;
+      mask = r .mask;
+      preset0 = r .preset0;
+      preset1 = r .preset1;
+      preset2 = r .preset2;
+      preset3 = r .preset3;
+    }
 
 abbrev pub withAddressed : ℕ → Record → Record
 withAddressed x r =
-    record { kind = r .kind; level = r .level; addressed = x; mask = r .mask; preset0 = r .preset0; preset1 = r .preset1; preset2 = r .preset2; preset3 = r .preset3 }
+    record {
+      kind = r .kind;
+      level = r .level;
+      addressed = x;
+      mask = r .mask;
+      preset0 = r .preset0;
+      preset1 = r .preset1;
+      preset2 = r .preset2;
+      preset3 = r .preset3;
+    }
 
 -- the mask with a bit for each of the four groups, and the record as a member of the groups k with `mem k`, its presets `pre k`
 abbrev pub maskOf : Bool → Bool → Bool → Bool → ℕ
@@ -86,4 +110,13 @@ maskOf a b c d = pick a 1 0 + pick b 2 0 + pick c 4 0 + pick d 8 0
 
 abbrev pub regroup : (ℕ → Bool) → (ℕ → ℕ) → Record → Record
 regroup mem pre r =
-    record { kind = r .kind; level = r .level; addressed = r .addressed; mask = maskOf (mem 0) (mem 1) (mem 2) (mem 3); preset0 = pre 0; preset1 = pre 1; preset2 = pre 2; preset3 = pre 3 }
+    record {
+      kind = r .kind;
+      level = r .level;
+      addressed = r .addressed;
+      mask = maskOf (mem 0) (mem 1) (mem 2) (mem 3);
+      preset0 = pre 0;
+      preset1 = pre 1;
+      preset2 = pre 2;
+      preset3 = pre 3;
+    }

@@ -1,21 +1,26 @@
--- The module table (01, 'The module table'; XTC798, type 3), in 01's order: the rules of a valid table, what each message asks of
--- the records of its house, what that does to one record, and what it does to the table. Where the bytes lie is in Layout.
-use Prim.Native.Nat.{ℕ, zero, suc, _+_, _-_, _*_, _/_, _%_, min, max}
+-- The module table (01, 'The module table'; XTC798, type 3), in 01's order: the rules of a valid table, what an act does to one
+-- record and to the house's own bytes, and what it does to the table. Which act a message asks for is in plan's Plans, where the
+-- bytes lie in Layout.
+use Prim.Native.Nat.{ℕ, zero, suc, _+_, _-_, _*_, min, max}
 use mathlib.Core.Bool.{Bool, true, not, _&&_, _||_}
 use mathlib.Core.List.{List}
 use lib.Dec.{eqb, leb}
-use lib.ListN.{length, set}
+use lib.ListN.{length}
 use Rattle.ground.specs.Choice.{pick}
 use Rattle.message.specs.declared.Function.{Function}
-use Rattle.message.specs.declared.Function.the-variants.{AllUnitsOff, AllLightsOn, On, Off, Dim, Bright, AllLightsOff, HailRequest, HailAcknowledge, StatusOn, StatusOff, StatusRequest}
+use Rattle.message.specs.declared.Function.the-variants.{AllUnitsOff, AllLightsOn, On, Off, Dim, Bright, AllLightsOff}
+use Rattle.message.specs.declared.Function.the-variants.{HailRequest, HailAcknowledge, StatusOn, StatusOff, StatusRequest}
 use Rattle.message.specs.declared.Message.{Message}
-use Rattle.message.specs.declared.Message.the-variants.{Address as Calls, Function as Command, Extended}
+use Rattle.plan.specs.declared.Act.{Act}
+use Rattle.plan.specs.declared.Act.the-variants.{Nothing, Address, Obey, Join, Level, JoinAt, UnitsOn, UnitsOff}
+use Rattle.plan.specs.declared.Act.the-variants.{Leave, LeaveHouse, Execute, GroupOff, GroupDim, GroupBright}
+use Rattle.plan.specs.declared.Plan.{Plan}
+use Rattle.plan.specs.declared.Plan.the-variants.{Run, Refused}
+use Rattle.plan.specs.Plans.{bit, houseOf}
 use Rattle.record.specs.declared.Record.{Record}
-use Rattle.record.specs.declared.Act.{Act}
-use Rattle.record.specs.declared.Act.the-variants.{Nothing, Address, Obey, Join, Level, JoinAt, UnitsOn, UnitsOff, Leave, LeaveHouse, Execute, GroupOff, GroupDim, GroupBright}
-use Rattle.record.specs.declared.Plan.{Plan}
-use Rattle.record.specs.declared.Plan.the-variants.{Run, NotCarried}
-use Rattle.record.specs.Layout.{RECORDS, UNITS, HOUSES, HEARD-AT, TABLE-BYTES, houseOf, recordAt, put, heardAt, present, lamp, appliance, bit, member, preset, withLevel, withAddressed, regroup}
+use Rattle.record.specs.declared.House.{House}
+use Rattle.record.specs.Layout.{RECORDS, UNITS, HOUSES, TABLE-BYTES, recordAt, put, houseAt, putHouse}
+use Rattle.record.specs.Layout.{present, lamp, appliance, member, preset, withLevel, withAddressed, regroup}
 
 -- ---- The rules of a valid table
 
@@ -46,66 +51,21 @@ unfoldable pub allBelow : ℕ → (ℕ → Bool) → Bool
 allBelow zero f = true
 allBelow (suc n) f = allBelow n f && f n
 
--- each record keeps the rules; "House bytes are 0 or 1."
+-- "House bytes are 0 or 1."
+abbrev pub houseOk : House → Bool
+houseOk own = leb (own .heard) 1
+
+-- each record keeps the rules, and so do each house's own bytes
 abbrev pub recordsOk : ℕ → List ℕ → Bool
 recordsOk n t = allBelow n (λ i. recordOk (recordAt t i))
 
 abbrev pub housesOk : ℕ → List ℕ → Bool
-housesOk n t = allBelow n (λ h. leb (heardAt t h) 1)
+housesOk n t = allBelow n (λ h. houseOk (houseAt t h))
 
 unfoldable pub tableOk : List ℕ → Bool
 tableOk t = eqb (length t) TABLE-BYTES && recordsOk RECORDS t && housesOk HOUSES t
 
--- ---- What a message asks of the records of its house, by the house's "command heard" byte
-
--- "30, bit 5 clear", and so for 36 and 3C: with the bit set a group is relative, which is NOT CARRIED
-abbrev pub absolute : ℕ → Act → Plan
-absolute d a = pick (bit 5 d) NotCarried (Run a)
-
--- "35: .. top four 0 for the unit, 15 for the house"
-abbrev pub leavePlan : ℕ → ℕ → Plan
-leavePlan u d = pick (eqb (d / 16) 0) (Run (Leave u d)) (pick (eqb (d / 16) 15) (Run (LeaveHouse d)) NotCarried)
-
--- "36, bits 5 and 4: 00 sets the house's members of G to their presets, 01 to 0."
-abbrev pub executePlan : ℕ → Plan
-executePlan d = absolute d (pick (bit 4 d) (GroupOff d) (Execute d))
-
--- "3C, bit 5 clear: members that are lamps step as bright (bit 4 set) or dim."
-abbrev pub stepPlan : ℕ → Plan
-stepPlan d = absolute d (pick (bit 4 d) (GroupBright d) (GroupDim d))
-
--- "37 with bits 5, 4 of 00 or 01, or 10 with low four bits 0": heard, no change
-abbrev pub statusPlan : ℕ → Plan
-statusPlan d = pick (not (bit 5 d) || (not (bit 4 d) && eqb (d % 16) 0)) (Run Nothing) NotCarried
-
--- the extended commands, by unit, data and command: "Everything else is NOT CARRIED"
-unfoldable pub extendedPlan : ℕ → ℕ → ℕ → Plan
-extendedPlan u d c =
-    pick (eqb c 0x30) (absolute d (Join u d))
-    (pick (eqb c 0x31) (Run (Level u d))
-    (pick (eqb c 0x32) (Run (JoinAt u d))
-    (pick (eqb c 0x33) (Run UnitsOn)
-    (pick (eqb c 0x34) (Run UnitsOff)
-    (pick (eqb c 0x35) (leavePlan u d)
-    (pick (eqb c 0x36) (executePlan d)
-    (pick (eqb c 0x3C) (stepPlan d)
-    (pick (eqb c 0x37) (statusPlan d)
-    (pick (leb 0x38 c && leb c 0x3B) (Run Nothing)
-    NotCarried)))))))))
-
--- "Address: if the house byte is 1, the whole house becomes unaddressed .. then that unit .. is addressed."
-abbrev pub planOf : ℕ → Message → Plan
-planOf heard (Calls h u) = Run (Address u (eqb heard 1))
-planOf heard (Command h f) = Run (Obey f)
-planOf heard (Extended h u d c) = extendedPlan u d c
-
--- ".. and the byte 0"; "Each function sets the house byte to 1 after acting."; extended commands "never touch .. house bytes"
-abbrev pub heardAfter : ℕ → Message → ℕ
-heardAfter heard (Calls h u) = 0
-heardAfter heard (Command h f) = 1
-heardAfter heard (Extended h u d c) = heard
-
--- ---- What that does to one record
+-- ---- What an act does to one record
 
 -- at level x where the test holds
 abbrev pub relevel : Bool → ℕ → Record → Record
@@ -140,59 +100,82 @@ obeyed StatusOn r = r
 obeyed StatusOff r = r
 obeyed StatusRequest r = r
 
--- "G is data's top two bits", "B is data modulo 64", "For an appliance a non-zero B counts as 63."
-abbrev pub group : ℕ → ℕ
-group d = d / 64
-
-abbrev pub levelB : ℕ → Record → ℕ
-levelB d r = pick (appliance r && not (eqb (d % 64) 0)) 63 (d % 64)
+-- "For an appliance a non-zero B counts as 63."; B is 0..63, and a number above counts as 63
+abbrev pub levelFor : ℕ → Record → ℕ
+levelFor b r = pick (appliance r && not (eqb b 0)) 63 (min 63 b)
 
 -- "join G", with preset x; "leave the groups in the low four bits .. presets left become 0"
 unfoldable pub joined : ℕ → ℕ → Record → Record
 joined g x r = regroup (λ k. eqb g k || member k r) (λ k. pick (eqb g k) x (preset k r)) r
 
 unfoldable pub left : ℕ → Record → Record
-left d r = regroup (λ k. member k r && not (bit k d)) (λ k. pick (bit k d) 0 (preset k r)) r
+left gs r = regroup (λ k. member k r && not (bit k gs)) (λ k. pick (bit k gs) 0 (preset k r)) r
 
--- what an act does to the record of unit n, if a module is there
-abbrev pub acted : Act → ℕ → Record → Record
-acted Nothing n r = r
-acted (Address u anew) n r = withAddressed (pick (eqb n u) 1 (pick anew 0 (r .addressed))) r
-acted (Obey f) n r = obeyed f r
-acted (Join u d) n r = pick (eqb n u) (joined (group d) (r .level) r) r
-acted (Level u d) n r = relevel (eqb n u) (levelB d r) r
-acted (JoinAt u d) n r = pick (eqb n u) (joined (group d) (levelB d r) r) r
-acted UnitsOn n r = withLevel 63 r
-acted UnitsOff n r = withLevel 0 r
-acted (Leave u d) n r = pick (eqb n u) (left d r) r
-acted (LeaveHouse d) n r = left d r
-acted (Execute d) n r = relevel (member (group d) r) (preset (group d) r) r
-acted (GroupOff d) n r = relevel (member (group d) r) 0 r
-acted (GroupDim d) n r = relevel (member (group d) r && lamp r) (dimmed (r .level)) r
-acted (GroupBright d) n r = relevel (member (group d) r && lamp r) (brightened (r .level)) r
+-- what an act does to the record of unit n, by the house's own bytes, if a module is there; "Address: if the house byte is 1, the
+-- whole house becomes unaddressed ..; then that unit .. is addressed."
+abbrev pub acted : Act → House → ℕ → Record → Record
+acted Nothing own n r = r
+acted (Address u) own n r = withAddressed (pick (eqb n u) 1 (pick (eqb (own .heard) 1) 0 (r .addressed))) r
+acted (Obey f) own n r = obeyed f r
+acted (Join u g) own n r = pick (eqb n u) (joined g (r .level) r) r
+acted (Level u b) own n r = relevel (eqb n u) (levelFor b r) r
+acted (JoinAt u g b) own n r = pick (eqb n u) (joined g (levelFor b r) r) r
+acted UnitsOn own n r = withLevel 63 r
+acted UnitsOff own n r = withLevel 0 r
+acted (Leave u gs) own n r = pick (eqb n u) (left gs r) r
+acted (LeaveHouse gs) own n r = left gs r
+acted (Execute g) own n r = relevel (member g r) (preset g r) r
+acted (GroupOff g) own n r = relevel (member g r) 0 r
+acted (GroupDim g) own n r = relevel (member g r && lamp r) (dimmed (r .level)) r
+acted (GroupBright g) own n r = relevel (member g r && lamp r) (brightened (r .level)) r
 
 -- "Kind 0 is all zeros", and stays so: "An absent unit named by a carried command changes nothing"
-unfoldable pub stepRecord : Act → ℕ → Record → Record
-stepRecord a n r = pick (present r) (acted a n r) r
+unfoldable pub stepRecord : Act → House → ℕ → Record → Record
+stepRecord a own n r = pick (present r) (acted a own n r) r
+
+-- ---- What it does to the house's own bytes
+
+-- "if the house byte is 1, .. the byte 0"; "Each function sets the house byte to 1 after acting."; the extended commands "never
+-- touch addressing or house bytes"
+abbrev pub heardAfter : Act → ℕ → ℕ
+heardAfter Nothing x = x
+heardAfter (Address u) x = 0
+heardAfter (Obey f) x = 1
+heardAfter (Join u g) x = x
+heardAfter (Level u b) x = x
+heardAfter (JoinAt u g b) x = x
+heardAfter UnitsOn x = x
+heardAfter UnitsOff x = x
+heardAfter (Leave u gs) x = x
+heardAfter (LeaveHouse gs) x = x
+heardAfter (Execute g) x = x
+heardAfter (GroupOff g) x = x
+heardAfter (GroupDim g) x = x
+heardAfter (GroupBright g) x = x
+
+abbrev pub houseAfter : Act → House → House
+houseAfter a own = record { heard = heardAfter a (own .heard) }
 
 -- ---- What it does to the table
 
--- the first n records of a house, each stepped where it lies
-unfoldable pub stepHouse : ℕ → Act → ℕ → List ℕ → List ℕ
-stepHouse zero a h t = t
-stepHouse (suc n) a h t =
-    let s = stepHouse n a h t in
+-- the first n records of house h, each stepped where it lies, by the house's own bytes
+unfoldable pub stepHouse : ℕ → Act → House → ℕ → List ℕ → List ℕ
+stepHouse zero a own h t = t
+stepHouse (suc n) a own h t =
+    let s = stepHouse n a own h t in
     let i = h * UNITS + n in
-    put s i (stepRecord a n (recordAt s i))
+    put s i (stepRecord a own n (recordAt s i))
 
--- an act run for a house: its sixteen records, and then its house byte
-unfoldable pub runAct : Act → ℕ → ℕ → List ℕ → List ℕ
-runAct a h heard t = set (stepHouse UNITS a h t) (HEARD-AT + h) heard
+-- an act run for house h: its sixteen records, and then its own bytes
+unfoldable pub runAct : Act → ℕ → List ℕ → List ℕ
+runAct a h t =
+    let own = houseAt t h in
+    putHouse (stepHouse UNITS a own h t) h (houseAfter a own)
 
--- a message carried out; nothing where it is not carried
+-- a message carried out; nothing where it is refused
 abbrev pub carriedOut : Message → Plan → List ℕ → List ℕ
-carriedOut m (Run a) t = runAct a (houseOf m) (heardAfter (heardAt t (houseOf m)) m) t
-carriedOut m NotCarried t = t
+carriedOut m (Run a) t = runAct a (houseOf m) t
+carriedOut m (Refused why) t = t
 
 -- "The result counts the records whose level differs before and after.": among the first n
 unfoldable pub changed : ℕ → List ℕ → List ℕ → ℕ

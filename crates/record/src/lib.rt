@@ -1,13 +1,11 @@
-// One module's record by value: its fields, the rules of a valid one, what a message asks of it, and what that does to it. The
+// One module's record and a house's own bytes, by value: their fields, the rules of valid ones, and what an act does to them. The
 // table's bytes are the crate above; their sizes stand here, once for all, beside specs/Layout.antt.
-use message::Function;
+use plan::bit_of;
 ghost use mathlib.Core.Path.{_≡_};
-ghost use Prim.Native.Nat.{_<_};
 ghost use Rattle.ground.specs.Choice.{pick};
-ghost use Rattle.record.specs.Layout.{bit, preset};
-ghost use Rattle.record.specs.ModuleTable.{levelOk, presetOk, recordOk};
+ghost use Rattle.record.specs.Layout.{preset};
+ghost use Rattle.record.specs.ModuleTable.{levelOk, presetOk, recordOk, houseOk};
 
-pub mod commands;
 pub mod step;
 
 // The bytes of a record.
@@ -16,7 +14,7 @@ pub const RECORD_BYTES: usize = 8;
 // The units of a house.
 pub const UNITS: usize = 16;
 
-// The houses, and the "command heard" bytes.
+// The houses.
 pub const HOUSES: usize = 16;
 
 // The records of all houses.
@@ -25,8 +23,11 @@ pub const RECORDS: usize = HOUSES * UNITS;
 // Where the "command heard" bytes begin.
 pub const HEARD_AT: usize = RECORDS * RECORD_BYTES;
 
+// The bytes of a house beside its records'.
+pub const HOUSE_BYTES: usize = 1;
+
 // The bytes of a table.
-pub const TABLE_BYTES: usize = HEARD_AT + HOUSES;
+pub const TABLE_BYTES: usize = HEARD_AT + HOUSES * HOUSE_BYTES;
 
 // A module: kind 0 none, 1 lamp, 2 appliance; bit g of the mask is set for a member of group g.
 pub struct Record {
@@ -40,43 +41,9 @@ pub struct Record {
     pub preset3: u8,
 }
 
-// What a message asks of the sixteen records of its house. Data holds the level B (data modulo 64), the group G (the top two
-// bits), or groups (the low four bits).
-pub enum Act {
-    // Heard, and no record changes.
-    Nothing,
-    // The unit is addressed; where `anew`, every other unit is unaddressed.
-    Address { unit: u8, anew: bool },
-    // Those that the function reaches carry it out.
-    Obey(Function),
-    // The unit joins G at its current level.
-    Join { unit: u8, data: u8 },
-    // The unit goes to level B.
-    Level { unit: u8, data: u8 },
-    // The unit joins G with preset B.
-    JoinAt { unit: u8, data: u8 },
-    // All units go to 63.
-    UnitsOn,
-    // All units go to 0.
-    UnitsOff,
-    // The unit leaves the groups in the low four bits.
-    Leave { unit: u8, data: u8 },
-    // All units leave the groups in the low four bits.
-    LeaveHouse { data: u8 },
-    // The members of G go to their presets.
-    Execute { data: u8 },
-    // The members of G go to 0.
-    GroupOff { data: u8 },
-    // The members of G that are lamps step as dim.
-    GroupDim { data: u8 },
-    // The members of G that are lamps step as bright.
-    GroupBright { data: u8 },
-}
-
-// What becomes of a message: an act, or none.
-pub enum Plan {
-    Run(Act),
-    NotCarried,
+// The bytes of a house beside its records': 1 where it has heard a command since an address, else 0.
+pub struct House {
+    pub heard: u8,
 }
 
 // One of two numbers, by a test.
@@ -84,14 +51,6 @@ fn choose(b: bool, x: u8, y: u8) -> u8
     ensures { λ r. ⌜ r ≡ pick b x y ⌝ }
 {
     if b { x } else { y }
-}
-
-// Whether bit k of a byte is set.
-fn bit_of(k: u8, x: u8) -> bool
-    requires { ⌜ k < 8 ⌝ }
-    ensures { λ r. ⌜ r ≡ bit k x ⌝ }
-{
-    (x >> k) % 2 == 1
 }
 
 fn preset_of(g: u8, r: Record) -> u8
@@ -130,7 +89,16 @@ pub fn valid(
     preset2: u8,
     preset3: u8,
 ) -> bool
-    ensures { λ b. ⌜ b ≡ recordOk (record { kind = kind; level = level; addressed = addressed; mask = mask; preset0 = preset0; preset1 = preset1; preset2 = preset2; preset3 = preset3 }) ⌝ }
+    ensures { λ b. ⌜ b ≡ recordOk (record {
+      kind = kind;
+      level = level;
+      addressed = addressed;
+      mask = mask;
+      preset0 = preset0;
+      preset1 = preset1;
+      preset2 = preset2;
+      preset3 = preset3;
+    }) ⌝ }
 {
     let zeros = (level == 0)
         & (addressed == 0)
@@ -148,4 +116,11 @@ pub fn valid(
         & preset_ok(kind, bit_of(2, mask), preset2)
         & preset_ok(kind, bit_of(3, mask), preset3)
         & (!(kind == 0) | zeros)
+}
+
+// Whether a house of these bytes keeps the rules.
+pub fn house_valid(heard: u8) -> bool
+    ensures { λ b. ⌜ b ≡ houseOk (record { heard = heard }) ⌝ }
+{
+    heard <= 1
 }

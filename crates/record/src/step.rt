@@ -1,16 +1,17 @@
-// What an act does to one record.
-use crate::Act;
+// What an act does to one record, and to a house's own bytes.
+use crate::House;
 use crate::Record;
-use crate::bit_of;
 use crate::choose;
 use crate::preset_of;
 use message::Function;
+use plan::Act;
+use plan::bit_of;
 ghost use mathlib.Core.Path.{_≡_};
 ghost use mathlib.Core.Bool.{Bool};
-ghost use Prim.Native.Nat.{_≤_};
+ghost use Prim.Native.Nat.{_≤_, min};
 ghost use Rattle.ground.specs.Choice.{pick};
 ghost use Rattle.record.specs.Layout.{maskOf, withLevel, withAddressed};
-ghost use Rattle.record.specs.ModuleTable.{relevel, lit, dimmed, brightened, obeyed, levelB, joined, left, acted, stepRecord};
+ghost use Rattle.record.specs.ModuleTable.{relevel, lit, dimmed, brightened, obeyed, levelFor, joined, left, acted, stepRecord, heardAfter, houseAfter};
 
 fn at_level(x: u8, r: Record) -> Record
     ensures { λ s. ⌜ s ≡ withLevel x r ⌝ }
@@ -92,11 +93,18 @@ fn obey(f: Function, r: Record) -> Record
     }
 }
 
-// The level that data asks of a module: for an appliance all or nothing.
-fn level_asked(data: u8, r: Record) -> u8
-    ensures { λ x. ⌜ x ≡ levelB «data» r ⌝ }
+// A number above 63 as 63.
+fn at_most_63(x: u8) -> u8
+    ensures { λ l. ⌜ l ≡ min 63 x ⌝ }
 {
-    choose((r.kind == 2) & !(data % 64 == 0), 63, data % 64)
+    if x < 63 { x } else { 63 }
+}
+
+// The level that a module takes where x is asked: for an appliance all or nothing.
+fn level_asked(x: u8, r: Record) -> u8
+    ensures { λ l. ⌜ l ≡ levelFor x r ⌝ }
+{
+    choose((r.kind == 2) & !(x == 0), 63, at_most_63(x))
 }
 
 // A bit of a mask.
@@ -135,7 +143,7 @@ fn join(g: u8, x: u8, r: Record) -> Record
     }
 }
 
-// The record as a member no more of the groups in the low four bits.
+// The record as a member no more of the groups told, a bit each.
 fn leave(groups: u8, r: Record) -> Record
     ensures { λ s. ⌜ s ≡ left groups r ⌝ }
 {
@@ -169,45 +177,76 @@ fn choose_record(b: bool, x: Record, y: Record) -> Record
 }
 
 // What an act does to the record of unit n, where a module is there.
-fn act_on(act: Act, n: u8, r: Record) -> Record
-    ensures { λ s. ⌜ s ≡ acted act n r ⌝ }
+fn act_on(act: Act, house: House, n: u8, r: Record) -> Record
+    ensures { λ s. ⌜ s ≡ acted act house n r ⌝ }
 {
     match act {
         Act::Nothing => r,
-        Act::Address { unit, anew } => addressed_as(
-            choose(n == unit, 1, choose(anew, 0, r.addressed)),
+        Act::Address { unit } => addressed_as(
+            choose(n == unit, 1, choose(house.heard == 1, 0, r.addressed)),
             r,
         ),
         Act::Obey(f) => obey(f, r),
-        Act::Join { unit, data } => choose_record(n == unit, join(data / 64, r.level, r), r),
-        Act::Level { unit, data } => level_if(n == unit, level_asked(data, r), r),
-        Act::JoinAt { unit, data } => choose_record(
+        Act::Join { unit, group } => choose_record(n == unit, join(group, r.level, r), r),
+        Act::Level { unit, level } => level_if(n == unit, level_asked(level, r), r),
+        Act::JoinAt { unit, group, level } => choose_record(
             n == unit,
-            join(data / 64, level_asked(data, r), r),
+            join(group, level_asked(level, r), r),
             r,
         ),
         Act::UnitsOn => at_level(63, r),
         Act::UnitsOff => at_level(0, r),
-        Act::Leave { unit, data } => choose_record(n == unit, leave(data, r), r),
-        Act::LeaveHouse { data } => leave(data, r),
-        Act::Execute { data } => level_if(bit_of(data / 64, r.mask), preset_of(data / 64, r), r),
-        Act::GroupOff { data } => level_if(bit_of(data / 64, r.mask), 0, r),
-        Act::GroupDim { data } => level_if(
-            bit_of(data / 64, r.mask) & (r.kind == 1),
-            dim(r.level),
-            r,
-        ),
-        Act::GroupBright { data } => level_if(
-            bit_of(data / 64, r.mask) & (r.kind == 1),
+        Act::Leave { unit, groups } => choose_record(n == unit, leave(groups, r), r),
+        Act::LeaveHouse { groups } => leave(groups, r),
+        Act::Execute { group } => level_if(bit_of(group, r.mask), preset_of(group, r), r),
+        Act::GroupOff { group } => level_if(bit_of(group, r.mask), 0, r),
+        Act::GroupDim { group } => level_if(bit_of(group, r.mask) & (r.kind == 1), dim(r.level), r),
+        Act::GroupBright { group } => level_if(
+            bit_of(group, r.mask) & (r.kind == 1),
             brighten(r.level),
             r,
         ),
     }
 }
 
-// What an act does to the record of unit n of the house. An absent unit stays as it is.
-pub fn step(act: Act, n: u8, r: Record) -> Record
-    ensures { λ s. ⌜ s ≡ stepRecord act n r ⌝ }
+// What an act does to the record of unit n of a house, by the house's own bytes. An absent unit stays as it is.
+pub fn step(act: Act, house: House, n: u8, r: Record) -> Record
+    ensures { λ s. ⌜ s ≡ stepRecord act house n r ⌝ }
 {
-    choose_record(!(r.kind == 0), act_on(act, n, r), r)
+    choose_record(!(r.kind == 0), act_on(act, house, n, r), r)
+}
+
+// The "command heard" byte after an act, where it was x before.
+fn heard_after(act: Act, x: u8) -> u8
+    ensures { λ y. ⌜ y ≡ heardAfter act x ⌝ }
+{
+    match act {
+        Act::Nothing => x,
+        Act::Address { unit: _ } => 0,
+        Act::Obey(_) => 1,
+        Act::Join { unit: _, group: _ } => x,
+        Act::Level { unit: _, level: _ } => x,
+        Act::JoinAt {
+            unit: _,
+            group: _,
+            level: _,
+        } => x,
+        Act::UnitsOn => x,
+        Act::UnitsOff => x,
+        Act::Leave { unit: _, groups: _ } => x,
+        Act::LeaveHouse { groups: _ } => x,
+        Act::Execute { group: _ } => x,
+        Act::GroupOff { group: _ } => x,
+        Act::GroupDim { group: _ } => x,
+        Act::GroupBright { group: _ } => x,
+    }
+}
+
+// A house's own bytes after an act.
+pub fn house_after(act: Act, house: House) -> House
+    ensures { λ s. ⌜ s ≡ houseAfter act house ⌝ }
+{
+    House {
+        heard: heard_after(act, house.heard),
+    }
 }

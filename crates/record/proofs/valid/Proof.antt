@@ -33,7 +33,18 @@ preset-ok-requires-4 c κs = search needs
 
 returns : tie.Need-returns
 unfolding recordOk
-returns c = simp (c .preset-ok4 .ensures, c .before .bit-of4 .ensures, c .before .before .preset-ok3 .ensures, c .before .before .before .bit-of3 .ensures, c .before .before .before .before .preset-ok2 .ensures, c .before .before .before .before .before .bit-of2 .ensures, c .before .before .before .before .before .before .preset-ok .ensures, c .before .before .before .before .before .before .before .bit-of .ensures, c .before .before .before .before .before .before .before .before .level-ok .ensures)
+returns c =
+    simp (
+      c .preset-ok4 .ensures,
+      c .before .bit-of4 .ensures,
+      c .before .before .preset-ok3 .ensures,
+      c .before .before .before .bit-of3 .ensures,
+      c .before .before .before .before .preset-ok2 .ensures,
+      c .before .before .before .before .before .bit-of2 .ensures,
+      c .before .before .before .before .before .before .preset-ok .ensures,
+      c .before .before .before .before .before .before .before .bit-of .ensures,
+      c .before .before .before .before .before .before .before .before .level-ok .ensures,
+    )
 
 pub valid-spec : {M : Type 1} → statement M
 valid-spec =

@@ -130,7 +130,13 @@ returns : tie.Need-returns
 returns c = simp (c .enum-told .given .1)
 
 returns-2 : tie.Need-returns-2
-returns-2 c = simp (c .addressed-as .ensures, c .before .choose2 .ensures, c .before .before .choose .ensures, c .before .before .before .before .act .given .1)
+returns-2 c =
+    simp (
+      c .addressed-as .ensures,
+      c .before .choose2 .ensures,
+      c .before .before .choose .ensures,
+      c .before .before .before .before .before .act .given .1,
+    )
 
 returns-3 : tie.Need-returns-3
 returns-3 c = simp (c .obey .ensures, c .before .before .act2 .given .1)
@@ -142,7 +148,13 @@ returns-5 : tie.Need-returns-5
 returns-5 c = simp (c .level-if .ensures, c .before .level-asked .ensures, c .before .before .before .act4 .given .1)
 
 returns-6 : tie.Need-returns-6
-returns-6 c = simp (c .choose-record2 .ensures, c .before .join2 .ensures, c .before .before .level-asked2 .ensures, c .before .before .before .before .act5 .given .1)
+returns-6 c =
+    simp (
+      c .choose-record2 .ensures,
+      c .before .join2 .ensures,
+      c .before .before .level-asked2 .ensures,
+      c .before .before .before .before .act5 .given .1,
+    )
 
 returns-7 : tie.Need-returns-7
 returns-7 c = simp (c .at-level .ensures, c .before .enum-told2 .given .1)
@@ -157,16 +169,34 @@ returns-10 : tie.Need-returns-10
 returns-10 c = simp (c .leave2 .ensures, c .before .before .act7 .given .1)
 
 returns-11 : tie.Need-returns-11
-returns-11 c = simp (c .level-if2 .ensures, c .before .preset-of .ensures, c .before .before .bit-of .ensures, c .before .before .before .before .act8 .given .1)
+returns-11 c =
+    simp (
+      c .level-if2 .ensures,
+      c .before .preset-of .ensures,
+      c .before .before .bit-of .ensures,
+      c .before .before .before .before .act8 .given .1,
+    )
 
 returns-12 : tie.Need-returns-12
 returns-12 c = simp (c .level-if3 .ensures, c .before .bit-of2 .ensures, c .before .before .before .act9 .given .1)
 
 returns-13 : tie.Need-returns-13
-returns-13 c = simp (c .level-if4 .ensures, c .before .dim .ensures, c .before .before .before .bit-of3 .ensures, c .before .before .before .before .before .act10 .given .1)
+returns-13 c =
+    simp (
+      c .level-if4 .ensures,
+      c .before .dim .ensures,
+      c .before .before .before .bit-of3 .ensures,
+      c .before .before .before .before .before .act10 .given .1,
+    )
 
 returns-14 : tie.Need-returns-14
-returns-14 c = simp (c .level-if5 .ensures, c .before .brighten .ensures, c .before .before .before .bit-of4 .ensures, c .before .before .before .before .before .act11 .given .1)
+returns-14 c =
+    simp (
+      c .level-if5 .ensures,
+      c .before .brighten .ensures,
+      c .before .before .before .bit-of4 .ensures,
+      c .before .before .before .before .before .act11 .given .1,
+    )
 
 pub act-on-spec : {M : Type 1} → statement M
 act-on-spec =

@@ -33,7 +33,18 @@ choose-requires-4 c κs = search needs
 
 returns : tie.Need-returns
 unfolding joined
-returns c = simp (c .choose4 .ensures, c .before .choose3 .ensures, c .before .before .choose2 .ensures, c .before .before .before .choose .ensures, c .before .before .before .before .mask-of .ensures, c .before .before .before .before .before .bit-of4 .ensures, c .before .before .before .before .before .before .bit-of3 .ensures, c .before .before .before .before .before .before .before .bit-of2 .ensures, c .before .before .before .before .before .before .before .before .bit-of .ensures)
+returns c =
+    simp (
+      c .choose4 .ensures,
+      c .before .choose3 .ensures,
+      c .before .before .choose2 .ensures,
+      c .before .before .before .choose .ensures,
+      c .before .before .before .before .mask-of .ensures,
+      c .before .before .before .before .before .bit-of4 .ensures,
+      c .before .before .before .before .before .before .bit-of3 .ensures,
+      c .before .before .before .before .before .before .before .bit-of2 .ensures,
+      c .before .before .before .before .before .before .before .before .bit-of .ensures,
+    )
 
 pub join-spec : {M : Type 1} → statement M
 join-spec =

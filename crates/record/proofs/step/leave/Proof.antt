@@ -45,7 +45,22 @@ choose-requires-4 c κs = search needs
 
 returns : tie.Need-returns
 unfolding left
-returns c = simp (c .choose4 .ensures, c .before .choose3 .ensures, c .before .before .choose2 .ensures, c .before .before .before .choose .ensures, c .before .before .before .before .mask-of .ensures, c .before .before .before .before .before .bit-of8 .ensures, c .before .before .before .before .before .before .bit-of7 .ensures, c .before .before .before .before .before .before .before .bit-of6 .ensures, c .before .before .before .before .before .before .before .before .bit-of5 .ensures, c .before .before .before .before .before .before .before .before .before .bit-of4 .ensures, c .before .before .before .before .before .before .before .before .before .before .bit-of3 .ensures, c .before .before .before .before .before .before .before .before .before .before .before .bit-of2 .ensures, c .before .before .before .before .before .before .before .before .before .before .before .before .bit-of .ensures)
+returns c =
+    simp (
+      c .choose4 .ensures,
+      c .before .choose3 .ensures,
+      c .before .before .choose2 .ensures,
+      c .before .before .before .choose .ensures,
+      c .before .before .before .before .mask-of .ensures,
+      c .before .before .before .before .before .bit-of8 .ensures,
+      c .before .before .before .before .before .before .bit-of7 .ensures,
+      c .before .before .before .before .before .before .before .bit-of6 .ensures,
+      c .before .before .before .before .before .before .before .before .bit-of5 .ensures,
+      c .before .before .before .before .before .before .before .before .before .bit-of4 .ensures,
+      c .before .before .before .before .before .before .before .before .before .before .bit-of3 .ensures,
+      c .before .before .before .before .before .before .before .before .before .before .before .bit-of2 .ensures,
+      c .before .before .before .before .before .before .before .before .before .before .before .before .bit-of .ensures,
+    )
 
 pub leave-spec : {M : Type 1} → statement M
 leave-spec =

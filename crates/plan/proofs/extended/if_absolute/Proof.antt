@@ -1,0 +1,17 @@
+-- `extended::if_absolute` meets its contract: bit 5 decides.
+use mathlib.Core.Path.{sym, _∙_}
+use borrow.Author.Needs.{needs}
+use Rattle.plan.proofs.extended.if_absolute.Statement.{statement}
+use Rattle.plan.proofs.extended.if_absolute.Tie as tie
+
+bit-of-requires : tie.Need-bit-of-requires
+bit-of-requires c κs = search needs
+
+returns : tie.Need-returns
+returns c = rw (sym (c .before .bit-of .ensures) ∙ c .if1 .taken)
+
+returns-2 : tie.Need-returns-2
+returns-2 c = rw (sym (c .before .bit-of .ensures) ∙ c .if1 .left)
+
+pub if-absolute-spec : {M : Type 1} → statement M
+if-absolute-spec = tie.close (tie.spec bit-of-requires returns returns-2)

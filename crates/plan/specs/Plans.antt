@@ -1,0 +1,105 @@
+-- What a message asks of the modules of its house (01, 'The module table'; XTC798, type 3), in 01's order, and where it is refused.
+use Prim.Native.Nat.{ℕ, _/_, _%_, _^_}
+use mathlib.Core.Bool.{Bool, true, false, not, _&&_, _||_}
+use mathlib.Core.List.{List, [], _∷_}
+use lib.Dec.{eqb, leb}
+use Rattle.ground.specs.Choice.{pick}
+use Rattle.ground.specs.Refusals.{Cause, unless, judged, Report, reports, refuses}
+use Rattle.ground.specs.declared.Refusal.the-variants as refusal
+use Rattle.message.specs.Messages.{messageOk}
+use Rattle.message.specs.declared.Message.{Message}
+use Rattle.message.specs.declared.Message.the-variants.{Address as Calls, Function as Command, Extended}
+use Rattle.plan.specs.declared.Act.{Act}
+use Rattle.plan.specs.declared.Act.the-variants.{Nothing, Address, Obey, Join, Level, JoinAt, UnitsOn, UnitsOff}
+use Rattle.plan.specs.declared.Act.the-variants.{Leave, LeaveHouse, Execute, GroupOff, GroupDim, GroupBright}
+use Rattle.plan.specs.declared.Plan.{Plan}
+use Rattle.plan.specs.declared.Plan.the-variants.{Run, Refused}
+
+-- the house that a message is for
+abbrev pub houseOf : Message → ℕ
+houseOf (Calls h u) = h
+houseOf (Command h f) = h
+houseOf (Extended h u d c) = h
+
+-- bit k of a byte
+abbrev pub bit : ℕ → ℕ → Bool
+bit k x = eqb (x / 2 ^ k % 2) 1
+
+-- "B is data modulo 64, G is data's top two bits"; "the groups in the low four bits"
+abbrev pub levelIn : ℕ → ℕ
+levelIn d = d % 64
+
+abbrev pub groupIn : ℕ → ℕ
+groupIn d = d / 64
+
+abbrev pub groupsIn : ℕ → ℕ
+groupsIn d = d % 16
+
+-- ---- Extended commands
+
+abbrev pub notCarried : Plan
+notCarried = Refused refusal.NotCarried
+
+-- "30, bit 5 clear", and so for 36 and 3C: with the bit set a group is relative, which is NOT CARRIED
+abbrev pub absolute : ℕ → Act → Plan
+absolute d a = pick (bit 5 d) notCarried (Run a)
+
+-- "35: leave the groups in the low four bits; top four 0 for the unit, 15 for the house"
+abbrev pub leavePlan : ℕ → ℕ → Plan
+leavePlan u d = pick (eqb (d / 16) 0) (Run (Leave u (groupsIn d))) (pick (eqb (d / 16) 15) (Run (LeaveHouse (groupsIn d))) notCarried)
+
+-- "36, bits 5 and 4: 00 sets the house's members of G to their presets, 01 to 0."
+abbrev pub executePlan : ℕ → Plan
+executePlan d = absolute d (pick (bit 4 d) (GroupOff (groupIn d)) (Execute (groupIn d)))
+
+-- "3C, bit 5 clear: members that are lamps step as bright (bit 4 set) or dim."
+abbrev pub stepPlan : ℕ → Plan
+stepPlan d = absolute d (pick (bit 4 d) (GroupBright (groupIn d)) (GroupDim (groupIn d)))
+
+-- "37 with bits 5, 4 of 00 or 01, or 10 with low four bits 0": heard, no change
+abbrev pub statusPlan : ℕ → Plan
+statusPlan d = pick (not (bit 5 d) || (not (bit 4 d) && eqb (d % 16) 0)) (Run Nothing) notCarried
+
+-- by unit, data and command: "30, bit 5 clear: join G at the current level. 31: level B. 32: join G with preset B.", "33, 34: all
+-- present units of the house to 63, to 0.", "38 to 3B: heard, no change"; "Everything else is NOT CARRIED"
+unfoldable pub extendedPlan : ℕ → ℕ → ℕ → Plan
+extendedPlan u d c =
+    pick (eqb c 0x30) (absolute d (Join u (groupIn d)))
+    (pick (eqb c 0x31) (Run (Level u (levelIn d)))
+    (pick (eqb c 0x32) (Run (JoinAt u (groupIn d) (levelIn d)))
+    (pick (eqb c 0x33) (Run UnitsOn)
+    (pick (eqb c 0x34) (Run UnitsOff)
+    (pick (eqb c 0x35) (leavePlan u d)
+    (pick (eqb c 0x36) (executePlan d)
+    (pick (eqb c 0x3C) (stepPlan d)
+    (pick (eqb c 0x37) (statusPlan d)
+    (pick (leb 0x38 c && leb c 0x3B) (Run Nothing)
+    notCarried)))))))))
+
+-- ---- Every message
+
+-- what a message asks, whatever its house and unit
+abbrev pub planOf : Message → Plan
+planOf (Calls h u) = Run (Address u)
+planOf (Command h f) = Run (Obey f)
+planOf (Extended h u d c) = extendedPlan u d c
+
+-- whether it is carried: its plan runs
+abbrev pub runs : Plan → Bool
+runs (Run a) = true
+runs (Refused why) = false
+
+abbrev pub carried : Message → Bool
+carried m = runs (planOf m)
+
+-- "MESSAGE: house or unit above 15", "NOT CARRIED: as said"
+abbrev pub planCauses : Message → List Cause
+planCauses m = unless (messageOk m) refusal.Message ∷ unless (carried m) refusal.NotCarried ∷ []
+
+unfoldable pub planAnswer : Message → Plan
+planAnswer m = judged (planCauses m) (planOf m) Refused
+
+-- the number and the act
+abbrev pub planReport : Plan → Report Act
+planReport (Run a) = reports (a ∷ [])
+planReport (Refused why) = refuses why

@@ -1,0 +1,108 @@
+// What a message asks of the modules of its house, with the parts that its data byte holds. No table is looked at.
+use ground::Refusal;
+use message::Function;
+use message::Message;
+ghost use mathlib.Core.Path.{_≡_};
+ghost use Rattle.ground.specs.Refusals.{judged, refuses};
+ghost use Rattle.plan.specs.Plans.{bit, houseOf, planOf, carried, planCauses, planAnswer, planReport};
+
+mod extended;
+
+// What is asked of the sixteen modules of a house. A unit is a number 0 to 15, a group 0 to 3 and a level 0 to 63; bit g of
+// `groups` is set for group g.
+pub enum Act {
+    // Heard, and no module changes.
+    Nothing,
+    // The unit is addressed; where the house has heard a command, every other unit is unaddressed.
+    Address { unit: u8 },
+    // Those that the function reaches carry it out.
+    Obey(Function),
+    // The unit joins the group at its current level.
+    Join { unit: u8, group: u8 },
+    // The unit goes to the level.
+    Level { unit: u8, level: u8 },
+    // The unit joins the group with the level as its preset.
+    JoinAt { unit: u8, group: u8, level: u8 },
+    // All units go to 63.
+    UnitsOn,
+    // All units go to 0.
+    UnitsOff,
+    // The unit leaves the groups.
+    Leave { unit: u8, groups: u8 },
+    // All units leave the groups.
+    LeaveHouse { groups: u8 },
+    // The members of the group go to their presets.
+    Execute { group: u8 },
+    // The members of the group go to 0.
+    GroupOff { group: u8 },
+    // The members of the group that are lamps step as dim.
+    GroupDim { group: u8 },
+    // The members of the group that are lamps step as bright.
+    GroupBright { group: u8 },
+}
+
+// What becomes of a message: an act is run, or the message is refused.
+pub enum Plan {
+    Run(Act),
+    Refused(Refusal),
+}
+
+// Whether bit k of a byte is set. A byte has no bit above 7.
+pub fn bit_of(k: u8, x: u8) -> bool
+    ensures { λ r. ⌜ r ≡ bit k x ⌝ }
+{
+    if k < 8 { (x >> k) % 2 == 1 } else { false }
+}
+
+// The house that a message is for.
+pub fn house_of(m: Message) -> u8
+    ensures { λ r. ⌜ r ≡ houseOf m ⌝ }
+{
+    match m {
+        Message::Address { house, unit: _ } => house,
+        Message::Function { house, function: _ } => house,
+        Message::Extended {
+            house,
+            unit: _,
+            data: _,
+            command: _,
+        } => house,
+    }
+}
+
+// What a message asks. Its house and unit are not judged.
+fn asked(m: Message) -> Plan
+    ensures { λ r. ⌜ r ≡ planOf m ⌝ }
+{
+    match m {
+        Message::Address { house: _, unit } => Plan::Run(Act::Address { unit: unit }),
+        Message::Function { house: _, function } => Plan::Run(Act::Obey(function)),
+        Message::Extended {
+            house: _,
+            unit,
+            data,
+            command,
+        } => extended::extended_plan(unit, data, command),
+    }
+}
+
+// Whether a message asks for an act. Its house and unit are not judged.
+pub fn carried(m: Message) -> bool
+    ensures { λ r. ⌜ r ≡ carried m ⌝ }
+{
+    match asked(m) {
+        Plan::Run(_) => true,
+        Plan::Refused(_) => false,
+    }
+}
+
+// The act that a message asks for: refused where its house or unit is above 15, and where it is not carried.
+pub fn plan_for(m: Message) -> Plan
+    ensures answer { λ r. ⌜ r ≡ planAnswer m ⌝ }
+    ensures report { λ r. ⌜ planReport r ≡ judged (planCauses m) (planReport (planOf m)) refuses ⌝ }
+{
+    if !message::valid(m) {
+        return Plan::Refused(Refusal::Message);
+    }
+    asked(m)
+}
