@@ -1,7 +1,7 @@
 -- The statements of specs/Statements.antt about codes and answers, proved.
 use mathlib.Core.Path.{_≡_, refl, sym, ap, subst, _∙_}
 use mathlib.Core.Bool.{Bool, true, false, and-eq-true-iff}
-use mathlib.Core.List.{List, [], _∷_, List·Memᴰ, List·Memᴰ·not-nil, Memᴰ·map, Memᴰ·of-map, Memᴰ·cast}
+use mathlib.Core.List.{List, [], List·Memᴰ, List·Memᴰ·not-nil, Memᴰ·map, Memᴰ·of-map, Memᴰ·cast}
 use Prim.Native.Nat.{ℕ, _<_}
 use native.Mathlib.Omega.{arith}
 use lib.Dec.{leb}
@@ -9,10 +9,9 @@ use lib.ListN.{length, getD, List·getD-map}
 use Rattle.ground.specs.Refusals.{Report, reports, refuses, Cause, judged, lowest, rising}
 use Rattle.ground.proofs.Causes.{judged-map, some-number, lowest-given}
 use Rattle.message.specs.Messages.{messageOk}
-use Rattle.message.specs.declared.Message.{Message}
 use Rattle.message.proofs.Tables.{everyFrom, getD-any}
 use Rattle.radio.specs.Codes.{fourBytes, commandOk, commands, codes}
-use Rattle.radio.specs.Answers.{writeCauses, readCauses, readAnswer, readReport, messagesOf, messagesCauses, messagesAnswer, messagesReport}
+use Rattle.radio.specs.Answers.{writeCauses, readCauses, readAnswer, readReport, messagesOf, messagesCauses, messagesAnswer}
 use Rattle.radio.specs.Statements.{Exactly544, ReadOfWritten, WrittenOfRead, MessagesValid, LowestNumbers}
 use Rattle.radio.specs.declared.RadioCommand.{RadioCommand}
 use Rattle.radio.specs.declared.RadioCommand.the-variants.{On, Off, Bright, Dim}
