@@ -1,4 +1,4 @@
--- `messages` meets its contract: the test is that of the definition.
+-- `messages` meets its contract: the test is that of `messagesCauses`, and the messages are those that the command means.
 use mathlib.Core.Path.{ap, _∙_}
 use borrow.Author.Needs.{needs}
 use Rattle.ground.proofs.Causes.{ladder}

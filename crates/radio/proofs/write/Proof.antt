@@ -1,4 +1,4 @@
--- `write` meets its contract: the test is that of the definition, and b and c are.
+-- `write` meets its contract: the test is that of `writeCauses`, and b and c are the command's, in the answer and in what it reports.
 use mathlib.Core.Path.{ap, ap₂}
 use Prim.Native.Nat.{ℕ, _-_}
 use borrow.Author.Needs.{needs}
