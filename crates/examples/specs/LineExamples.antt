@@ -2,12 +2,12 @@
 use Prim.Native.Nat.{ℕ}
 use mathlib.Core.Path.{_≡_}
 use mathlib.Core.List.{List, [], _∷_}
-use Rattle.message.specs.Numbers.{CODE}
+use Rattle.ground.specs.Refusals.{reports}
 use Rattle.message.specs.declared.Function.the-variants.{On, Dim, Bright}
 use Rattle.message.specs.declared.Message.{Message}
 use Rattle.message.specs.declared.Message.the-variants.{Address, Function as Command, Extended}
 use Rattle.burst.specs.Frames.{frameOf}
-use Rattle.radio.specs.Answers.{given, refused, writeAnswer, readAnswer}
+use Rattle.radio.specs.Answers.{writeAnswer, writeReport, readAnswer, readReport}
 use Rattle.radio.specs.declared.RadioCommand.{RadioCommand}
 use Rattle.radio.specs.declared.RadioCommand.the-variants.{On as RadioOn, Off as RadioOff}
 use Rattle.record.specs.ModuleTable.{planOf, stepRecord}
@@ -36,14 +36,14 @@ levelAfter NotCarried r = r .level
 pub data Example : Type 0 where
   frame : Message → List ℕ → Example
   radio : RadioCommand → List ℕ → Example
-  refuses : List ℕ → ℕ → Example
+  refused : List ℕ → ℕ → Example
   level : Message → Record → ℕ → Example
 
 -- what an example says, by the definitions of the contracts
 abbrev pub Says : Example → Type 0
 Says (frame m halves) = frameOf m ≡ halves
-Says (radio k bytes) = writeAnswer k ≡ given bytes
-Says (refuses bytes n) = readAnswer bytes ≡ refused n
+Says (radio k bytes) = writeReport (writeAnswer k) ≡ reports bytes
+Says (refused bytes n) = readReport (readAnswer bytes) ≡ record { number = n; values = [] }
 Says (level m r x) = levelAfter (planOf 0 m) r ≡ x
 
 abbrev pub AllSay : List Example → Type 0
@@ -60,7 +60,7 @@ examples =
     ∷ radio (RadioOn 0 0) (0x60 ∷ 0x9F ∷ 0x00 ∷ 0xFF ∷ [])
     ∷ radio (RadioOff 0 4) (0x60 ∷ 0x9F ∷ 0x60 ∷ 0x9F ∷ [])
     ∷ radio (RadioOff 15 15) (0x34 ∷ 0xCB ∷ 0x78 ∷ 0x87 ∷ [])
-    ∷ refuses (0x60 ∷ 0x9F ∷ 0x01 ∷ 0xFE ∷ []) CODE
+    ∷ refused (0x60 ∷ 0x9F ∷ 0x01 ∷ 0xFE ∷ []) 14
     ∷ level (Command 0 Dim) (moduleOf LAMP 2) 1
     ∷ level (Command 0 Dim) (moduleOf LAMP 0) 60
     ∷ level (Command 0 Bright) (moduleOf LAMP 62) 63

@@ -1,49 +1,50 @@
 -- Laws of the radio codes: the houses' table is one-to-one, and so are the b and c of the commands.
 --
---     nibbles-one-to-one                  no four bits stand twice in the houses' table
---     house-of-nibble, nibble-of-house    four bits read back, both ways
---     nibble-below, house-below           four bits and houses are below 16
---     Bits, bits, digits, bit             a number below 16 by its bits
---     below, both-below                   the numbers of a valid command
---     bytes-one-to-one                    no two valid commands have the same b and c
+--     nibbles-one-to-one                      no four bits stand twice in the houses' table
+--     nibble-read-back, house-read-back       four bits read back, both ways
+--     nibble-below, house-of-nibble-below     four bits and houses are below 16
+--     Bits, bits, digits, bit                 a number below 16 by its bits
+--     bytes-one-to-one, no-shared-code        no two valid commands have the same b and c, or the same code
 use mathlib.Core.Path.{_≡_, refl, sym, ap, ap₂, _∙_}
-use mathlib.Core.Bool.{true, _&&_, and-eq-true-iff}
+use mathlib.Core.Bool.{true}
 use Prim.Native.Nat.{ℕ, _+_, _*_, _/_, _%_, _≤_, _<_}
 use native.Mathlib.Omega.{arith}
-use borrow.Author.Tests.{eqb-true, ltb-true, leb-true, ne-eqb}
-use lib.Dec.{eqb, ltb, leb, lit<}
+use borrow.Author.Tests.{eqb-true, ltb-true, ne-eqb}
+use lib.Dec.{eqb, ltb, lit<}
 use Rattle.ground.specs.Choice.{pick}
+use Rattle.ground.proofs.Choices.{below-sixteen, both-below}
 use Rattle.message.specs.Codes.{placeIn}
 use Rattle.message.proofs.Tables.{every-at, ReadsBack, read-back, one-to-one, entry-below}
-use Rattle.radio.specs.Codes.{houseNibbles, nibbleOf, houseOf, houseInB, unitInB, unitInC, byteB, byteC, commandOk, sixteen}
+use Rattle.radio.specs.Codes.{houseNibbles, nibbleOf, houseOfNibble, houseInB, unitInB, unitInC, byteB, byteC, commandOk, sixteen}
+use Rattle.radio.specs.Statements.{NibblesOneToOne, NoSharedCode}
 use Rattle.radio.specs.declared.RadioCommand.{RadioCommand}
 use Rattle.radio.specs.declared.RadioCommand.the-variants.{On, Off, Bright, Dim}
 
 -- ---- the houses' four bits
 
-nibbles-read-back : ReadsBack eqb houseNibbles
+nibbles-found : ReadsBack eqb houseNibbles
 unfolding houseNibbles placeIn
-nibbles-read-back = refl
+nibbles-found = refl
 
-pub nibbles-one-to-one : (i j : ℕ) → i < 16 → j < 16 → nibbleOf i ≡ nibbleOf j → i ≡ j
+pub nibbles-one-to-one : NibblesOneToOne
 unfolding nibbleOf houseNibbles
-nibbles-one-to-one i j hi hj e = one-to-one eqb houseNibbles 0 i j nibbles-read-back hi hj e
+nibbles-one-to-one g h lg lh e = one-to-one eqb houseNibbles 0 g h nibbles-found lg lh e
 
-pub house-of-nibble : (h : ℕ) → h < 16 → houseOf (nibbleOf h) ≡ h
-unfolding nibbleOf houseOf houseNibbles
-house-of-nibble h l = read-back eqb houseNibbles 0 h nibbles-read-back l
+pub nibble-read-back : (h : ℕ) → h < 16 → houseOfNibble (nibbleOf h) ≡ h
+unfolding nibbleOf houseOfNibble houseNibbles
+nibble-read-back h l = read-back eqb houseNibbles 0 h nibbles-found l
 
 pub nibble-below : (h : ℕ) → nibbleOf h < 16
 unfolding nibbleOf houseNibbles
 nibble-below h = entry-below houseNibbles h 16 0 refl (lit< tt)
 
-pub nibble-of-house : (n : ℕ) → n < 16 → nibbleOf (houseOf n) ≡ n
-unfolding nibbleOf houseOf houseNibbles placeIn sixteen
-nibble-of-house n l = eqb-true (nibbleOf (houseOf n)) n (every-at (λ k x. eqb (nibbleOf (houseOf k)) k) sixteen 0 n refl l)
+pub house-read-back : (n : ℕ) → n < 16 → nibbleOf (houseOfNibble n) ≡ n
+unfolding nibbleOf houseOfNibble houseNibbles placeIn sixteen
+house-read-back n l = eqb-true (nibbleOf (houseOfNibble n)) n (every-at (λ k x. eqb (nibbleOf (houseOfNibble k)) k) sixteen 0 n refl l)
 
-pub house-below : (n : ℕ) → n < 16 → houseOf n < 16
-unfolding houseOf houseNibbles placeIn sixteen
-house-below n l = ltb-true (houseOf n) 16 (every-at (λ k x. ltb (houseOf k) 16) sixteen 0 n refl l)
+pub house-of-nibble-below : (n : ℕ) → n < 16 → houseOfNibble n < 16
+unfolding houseOfNibble houseNibbles placeIn sixteen
+house-of-nibble-below n l = ltb-true (houseOfNibble n) 16 (every-at (λ k x. ltb (houseOfNibble k) 16) sixteen 0 n refl l)
 
 -- ---- bits
 
@@ -86,9 +87,9 @@ unitFrom b c = b / 4 % 2 * 8 + c / 64 % 2 * 4 + c / 8 % 2 * 2 + c / 16 % 2
 
 unfoldable commandFrom : ℕ → ℕ → RadioCommand
 commandFrom b c =
-    pick (eqb c 136) (Bright (houseOf (b / 16)))
-    (pick (eqb c 152) (Dim (houseOf (b / 16)))
-    (pick (eqb (c / 32 % 2) 0) (On (houseOf (b / 16)) (unitFrom b c)) (Off (houseOf (b / 16)) (unitFrom b c))))
+    pick (eqb c 136) (Bright (houseOfNibble (b / 16)))
+    (pick (eqb c 152) (Dim (houseOfNibble (b / 16)))
+    (pick (eqb (c / 32 % 2) 0) (On (houseOfNibble (b / 16)) (unitFrom b c)) (Off (houseOfNibble (b / 16)) (unitFrom b c))))
 
 from-switch : (h u c f : ℕ) → h < 16 → u < 16 → f < 2 → c ≡ unitInC u + f * 32
     → commandFrom (houseInB h + unitInB u) c ≡ pick (eqb f 0) (On h u) (Off h u)
@@ -103,7 +104,7 @@ from-switch h u c f hh hu hf is =
       ne-eqb c 152 (λ e. omega arith),
       s .five,
       high,
-      house-of-nibble h hh,
+      nibble-read-back h hh,
       eight,
       s .six,
       s .three,
@@ -111,21 +112,21 @@ from-switch h u c f hh hu hf is =
       digits u hu,
     )
 
-from-step : (h : ℕ) → h < 16 → houseOf (houseInB h / 16) ≡ h
-from-step h l = let high : houseInB h / 16 ≡ nibbleOf h = omega arith in ap houseOf high ∙ house-of-nibble h l
-
-pub below : (n : ℕ) → leb n 15 ≡ true → n < 16
-below n t = omega (arith, leb-true n 15 t)
-
-pub both-below : (h u : ℕ) → (leb h 15 && leb u 15) ≡ true → (h < 16) × (u < 16)
-both-below h u t = let p = and-eq-true-iff (leb h 15) (leb u 15) .0 t in (below h (p .0), below u (p .1))
+from-step : (h : ℕ) → h < 16 → houseOfNibble (houseInB h / 16) ≡ h
+from-step h l = let high : houseInB h / 16 ≡ nibbleOf h = omega arith in ap houseOfNibble high ∙ nibble-read-back h l
 
 command-from : (k : RadioCommand) → commandOk k ≡ true → commandFrom (byteB k) (byteC k) ≡ k
 unfolding commandFrom
 command-from (On h u) t = let p = both-below h u t in from-switch h u (unitInC u) 0 (p .0) (p .1) (omega arith) (omega arith)
 command-from (Off h u) t = let p = both-below h u t in from-switch h u (unitInC u + 32) 1 (p .0) (p .1) (omega arith) (omega arith)
-command-from (Bright h) t = ap Bright (from-step h (below h t))
-command-from (Dim h) t = ap Dim (from-step h (below h t))
+command-from (Bright h) t = ap Bright (from-step h (below-sixteen h t))
+command-from (Dim h) t = ap Dim (from-step h (below-sixteen h t))
 
 pub bytes-one-to-one : (j k : RadioCommand) → commandOk j ≡ true → commandOk k ≡ true → byteB j ≡ byteB k → byteC j ≡ byteC k → j ≡ k
 bytes-one-to-one j k tj tk eb ec = sym (command-from j tj) ∙ ap₂ commandFrom eb ec ∙ command-from k tk
+
+pub no-shared-code : NoSharedCode
+no-shared-code j k tj tk e =
+    let eb : byteB j ≡ byteB k = cc in
+    let ec : byteC j ≡ byteC k = cc in
+    bytes-one-to-one j k tj tk eb ec

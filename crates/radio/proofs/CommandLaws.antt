@@ -1,26 +1,26 @@
--- Laws of the list of commands, and of the command that the reader finds in it.
+-- Laws of the list of commands, and of the command that has a code.
 --
 --     getD-mem, every-mem                      an entry is a member; what a test over a list says of a member
 --     in-commands, commands-ok                 the list has the valid commands and no others
 --     commands-count, commands-one-to-one      it has 544, and none twice
---     Read, read-cases                         b and c are read as the command that has them, or refused where none has
---     code-given, code-refused                 the same, from one command and from no command
-use mathlib.Core.Path.{_≡_, refl, sym, ap, subst, _∙_}
+--     code-of-named, named-of-code             a code that stands among the 544 is its command's, and a valid command's code stands there
+use mathlib.Core.Path.{_≡_, refl, sym, ap, ap₂, subst, _∙_}
 use mathlib.Core.Bool.{Bool, true, false, and-eq-true-iff, true≢false}
-use mathlib.Core.List.{List, [], _∷_, flatMap, List·Memᴰ, List·Memᴰ·head, List·Memᴰ·tail, List·Memᴰ·not-nil, List·Memᴰ·cases-cons, Memᴰ·append-left, Memᴰ·append-right, Memᴰ·cast}
-use mathlib.Core.Logic.{_⊎_, inl, inr}
+use mathlib.Core.List.{List, [], _∷_, flatMap, List·Memᴰ, List·Memᴰ·head, List·Memᴰ·tail, Memᴰ·append-left, Memᴰ·append-right, Memᴰ·cast, Memᴰ·map}
 use Prim.Native.Nat.{ℕ, zero, suc, _+_, _*_, _<_}
 use native.Mathlib.Nat.{le-of-suc-le-suc, not-suc-le-zero}
+use native.Mathlib.Omega.{arith}
 use borrow.Author.Tests.{eqb-true, eq-eqb}
 use lib.Dec.{eqb}
-use lib.ListN.{length, getD}
-use Rattle.message.specs.Numbers.{CODE}
+use lib.ListN.{length, getD, length-map, List·getD-map}
+use Rattle.ground.specs.Choice.{pick}
+use Rattle.ground.proofs.Choices.{pick-both, both, below-sixteen, both-below}
+use Rattle.message.specs.Codes.{placeIn}
 use Rattle.message.proofs.Tables.{everyFrom, every-at}
-use Rattle.radio.specs.Codes.{byteB, byteC, commandOk, sixteen, switchesOf, commandsOf, commands}
-use Rattle.radio.specs.Answers.{given, refused, hasCode, commandIn, codeAnswer}
+use Rattle.radio.specs.Codes.{fourBytes, commandOk, sixteen, switchesOf, commandsOf, commands, codes, sameCode, codePlace, commandOf}
 use Rattle.radio.specs.declared.RadioCommand.{RadioCommand}
 use Rattle.radio.specs.declared.RadioCommand.the-variants.{On, Off, Bright, Dim}
-use Rattle.radio.proofs.CodeLaws.{below, both-below, bytes-one-to-one}
+use Rattle.radio.proofs.CodeLaws.{no-shared-code}
 
 -- ---- membership
 
@@ -61,8 +61,8 @@ module _ (h : ℕ) (k : RadioCommand) (lh : h < 16) where
 pub in-commands : (k : RadioCommand) → commandOk k ≡ true → List·Memᴰ k commands
 in-commands (On h u) t = let p = both-below h u t in in-switches h (On h u) (p .0) u (p .1) (List·Memᴰ·head refl)
 in-commands (Off h u) t = let p = both-below h u t in in-switches h (Off h u) (p .0) u (p .1) (List·Memᴰ·tail (List·Memᴰ·head refl))
-in-commands (Bright h) t = in-steps h (Bright h) (below h t) (List·Memᴰ·head refl)
-in-commands (Dim h) t = in-steps h (Dim h) (below h t) (List·Memᴰ·tail (List·Memᴰ·head refl))
+in-commands (Bright h) t = in-steps h (Bright h) (below-sixteen h t) (List·Memᴰ·head refl)
+in-commands (Dim h) t = in-steps h (Dim h) (below-sixteen h t) (List·Memᴰ·tail (List·Memᴰ·head refl))
 
 all-ok : everyFrom (λ i k. commandOk k) 0 commands ≡ true
 unfolding commands commandsOf flatMap sixteen
@@ -92,59 +92,60 @@ commands-one-to-one d i j hi hj e = sym (place i hi) ∙ ap placeOf e ∙ place 
     place : (n : ℕ) → n < length commands → placeOf (getD commands n d) ≡ n
     place n l = eqb-true (placeOf (getD commands n d)) n (every-at (λ i k. eqb (placeOf k) i) commands d n in-place l)
 
--- ---- the command found
+-- ---- the place of an entry
 
-module _ (b c : ℕ) where
-  has : (k : RadioCommand) → byteB k ≡ b → byteC k ≡ c → hasCode b c k ≡ true
-  has k eb ec = simp (eb, ec, eq-eqb b b refl, eq-eqb c c refl)
-
-  parts : (k : RadioCommand) → hasCode b c k ≡ true → (byteB k ≡ b) × (byteC k ≡ c)
-  parts k t =
-      let p = and-eq-true-iff (eqb (byteB k) b) (eqb (byteC k) c) .0 t in
-      (eqb-true (byteB k) b (p .0), eqb-true (byteC k) c (p .1))
-
-  -- what a list gives: a member that has this b and this c, or the refusal where no member has them
-  data Found (ks : List RadioCommand) : Type 0 where
-    one : (k : RadioCommand) → List·Memᴰ k ks → hasCode b c k ≡ true → commandIn ks b c ≡ given (k ∷ []) → Found ks
-    none : ((k : RadioCommand) → List·Memᴰ k ks → hasCode b c k ≡ true → ⊥) → commandIn ks b c ≡ refused CODE → Found ks
-
-  found : (ks : List RadioCommand) → Found ks
-  unfolding commandIn
-  found [] = none (λ k m t. List·Memᴰ·not-nil m) refl
-  found (k ∷ ks) = go (hasCode b c k) refl (found ks)
+module _ {A : Type 0} (same : A → A → Bool) (a : A) where
+  place-found : (xs : List A) (d : A) → placeIn same a xs < length xs → same a (getD xs (placeIn same a xs) d) ≡ true
+  unfolding placeIn
+  place-found [] d l = absurd (not-suc-le-zero l)
+  place-found (x ∷ xs) d l = go (same a x) refl l (place-found xs d)
     where
-      go : (t : Bool) → hasCode b c k ≡ t → Found ks → Found (k ∷ ks)
-      go true t rest = one k (List·Memᴰ·head refl) t (simp t)
-      go false t (one j m s e) = one j (List·Memᴰ·tail m) s (simp (t, e))
-      go false t (none h e) = none (λ j m s. nothing j s (List·Memᴰ·cases-cons m)) (simp (t, e))
-        where
-          nothing : (j : RadioCommand) → hasCode b c j ≡ true → (j ≡ k) ⊎ List·Memᴰ j ks → ⊥
-          nothing j s (inl q) = true≢false (sym s ∙ ap (hasCode b c) q ∙ t)
-          nothing j s (inr m) = h j m s
+      at : Bool → ℕ
+      at t = pick t zero (suc (placeIn same a xs))
 
-  -- the same of the list of all commands
-  pub data Read : Type 0 where
-    reads : (k : RadioCommand) → commandOk k ≡ true → byteB k ≡ b → byteC k ≡ c → codeAnswer b c ≡ given (k ∷ []) → Read
-    refuses : ((k : RadioCommand) → commandOk k ≡ true → byteB k ≡ b → byteC k ≡ c → ⊥) → codeAnswer b c ≡ refused CODE → Read
+      go : (t : Bool) → same a x ≡ t → at t < suc (length xs) → (placeIn same a xs < length xs → same a (getD xs (placeIn same a xs) d) ≡ true)
+          → same a (getD (x ∷ xs) (at t) d) ≡ true
+      go true t l rest = t
+      go false t l rest = rest (le-of-suc-le-suc l)
 
-  pub read-cases : Read
-  unfolding codeAnswer
-  read-cases = go (found commands)
-    where
-      go : Found commands → Read
-      go (one k m t e) = let p = parts k t in reads k (commands-ok k m) (p .0) (p .1) e
-      go (none h e) = refuses (λ k ok eb ec. h k (in-commands k ok) (has k eb ec)) e
+  place-within : {x : A} (xs : List A) → List·Memᴰ x xs → same a x ≡ true → placeIn same a xs < length xs
+  unfolding placeIn
+  place-within (y ∷ ys) (List·Memᴰ·head e) t = rw (ap (same a) (sym e) ∙ t) (omega arith)
+  place-within (y ∷ ys) (List·Memᴰ·tail m) t =
+      let rest = place-within ys m t in
+      pick-both (λ n. n < suc (length ys)) (same a y) zero (suc (placeIn same a ys)) (omega arith) (omega arith)
 
-  pub code-given : (k : RadioCommand) → commandOk k ≡ true → byteB k ≡ b → byteC k ≡ c → codeAnswer b c ≡ given (k ∷ [])
-  code-given k ok eb ec = go read-cases
-    where
-      go : Read → codeAnswer b c ≡ given (k ∷ [])
-      go (reads j okj ebj ecj e) = e ∙ ap (λ x. given (x ∷ [])) (bytes-one-to-one j k okj ok (ebj ∙ sym eb) (ecj ∙ sym ec))
-      go (refuses h e) = absurd (h k ok eb ec)
+-- ---- the command that has a code
 
-  pub code-refused : ((k : RadioCommand) → commandOk k ≡ true → byteB k ≡ b → byteC k ≡ c → ⊥) → codeAnswer b c ≡ refused CODE
-  code-refused never = go read-cases
-    where
-      go : Read → codeAnswer b c ≡ refused CODE
-      go (reads k ok eb ec e) = absurd (never k ok eb ec)
-      go (refuses h e) = e
+same-code : (xs ys : List ℕ) → sameCode xs ys ≡ true → xs ≡ ys
+same-code [] [] t = refl
+same-code [] (y ∷ ys) t = absurd (true≢false (sym t))
+same-code (x ∷ xs) [] t = absurd (true≢false (sym t))
+same-code (x ∷ xs) (y ∷ ys) t =
+    let p = and-eq-true-iff (eqb x y) (sameCode xs ys) .0 t in
+    ap₂ _∷_ (eqb-true x y (p .0)) (same-code xs ys (p .1))
+
+code-same : (xs : List ℕ) → sameCode xs xs ≡ true
+code-same [] = refl
+code-same (x ∷ xs) = both (eq-eqb x x refl) (code-same xs)
+
+pub codes-count : length codes ≡ 544
+unfolding codes
+codes-count = length-map commands fourBytes ∙ commands-count
+
+pub code-of-named : (code : List ℕ) → codePlace code < 544 → (commandOk (commandOf code) ≡ true) × (fourBytes (commandOf code) ≡ code)
+unfolding codePlace commandOf codes
+code-of-named code l =
+    let p = codePlace code in
+    let in-codes : p < length codes = subst (λ (n : ℕ). p < n) (sym codes-count) l in
+    let in-commands : p < length commands = subst (λ (n : ℕ). p < n) (sym commands-count) l in
+    let at : code ≡ getD codes p (fourBytes (Bright 0)) = same-code code _ (place-found sameCode code codes (fourBytes (Bright 0)) in-codes) in
+    (commands-ok (commandOf code) (getD-mem commands p (Bright 0) in-commands), sym (at ∙ List·getD-map fourBytes commands p (Bright 0)))
+
+pub named-of-code : (k : RadioCommand) → commandOk k ≡ true → (codePlace (fourBytes k) < 544) × (commandOf (fourBytes k) ≡ k)
+unfolding codePlace codes
+named-of-code k ok =
+    let in-codes = place-within sameCode (fourBytes k) codes (Memᴰ·map fourBytes (in-commands k ok)) (code-same (fourBytes k)) in
+    let within : codePlace (fourBytes k) < 544 = subst (λ (n : ℕ). codePlace (fourBytes k) < n) codes-count in-codes in
+    let named = code-of-named (fourBytes k) within in
+    (within, no-shared-code (commandOf (fourBytes k)) k (named .0) ok (named .1))

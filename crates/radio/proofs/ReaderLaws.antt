@@ -1,7 +1,8 @@
 -- Laws for the reader: what the definition gives for b and c, by the tests that the code makes of them.
 --
---     both-equal, one-differs                      what the code's test of two pairs of numbers says of them
---     paired, not-paired                           where both complements are right, and where one is not
+--     both-hold, one-fails                         what the code's test of two tests says of both
+--     both-equal, one-differs                      the same of two pairs of numbers
+--     code-again                                   where both complements are right, b and c make the code again
 --     low-clear, low-masked, unit-masked           the bits of b that must be 0, and the unit, by the code's masks
 --     bright-read, dim-read, on-read, off-read     where the tests hold: the house and unit taken out of b and c make b and c again
 --     no-step, no-switch                           where one does not: each command would pass it
@@ -15,13 +16,14 @@ use borrow.Author.Tests.{eqb-true, eq-eqb, not-true, not-false, le-leb}
 use lib.Bits.{bitAnd, and-step, and-high}
 use lib.Dec.{eqb, leb}
 use lib.ListN.{length, getD}
-use Rattle.message.specs.Numbers.{COMPLEMENT, CODE}
-use Rattle.radio.specs.Codes.{houseOf, houseInB, unitInB, unitInC, byteB, byteC}
-use Rattle.radio.specs.Answers.{given, refused, codeAnswer, readAnswer}
+use Rattle.ground.specs.declared.Refusal.the-variants as refusal
+use Rattle.radio.specs.Codes.{houseOfNibble, houseInB, unitInB, unitInC, byteB, byteC, codeFrom}
+use Rattle.radio.specs.Answers.{readAnswer}
 use Rattle.radio.specs.declared.RadioCommand.{RadioCommand}
 use Rattle.radio.specs.declared.RadioCommand.the-variants.{On, Off, Bright, Dim}
-use Rattle.radio.proofs.CodeLaws.{nibble-of-house, house-below, bit, Bits, bits, digits, unitFrom}
-use Rattle.radio.proofs.CommandLaws.{code-given, code-refused}
+use Rattle.radio.specs.declared.RadioRead.the-variants as read
+use Rattle.radio.proofs.CodeLaws.{house-read-back, house-of-nibble-below, bit, Bits, bits, digits, unitFrom}
+use Rattle.radio.proofs.AnswerLaws.{code-given, code-refused}
 
 -- ---- two tests joined: whether one of two fails
 
@@ -29,7 +31,7 @@ both-hold : (s t : Bool) → (not s || not t) ≡ false → (s && t) ≡ true
 both-hold true t e = not-false t e
 both-hold false t e = sym e
 
-one-fails : (s t : Bool) → (not s || not t) ≡ true → (s && t) ≡ false
+pub one-fails : (s t : Bool) → (not s || not t) ≡ true → (s && t) ≡ false
 one-fails true t e = not-true t e
 one-fails false t e = refl
 
@@ -42,30 +44,25 @@ module _ (a b x y : ℕ) where
   pub one-differs : (not (eqb a b) || not (eqb x y)) ≡ true → a ≡ b → x ≡ y → ⊥
   one-differs e p q = true≢false (sym e ∙ simp (eq-eqb a b p, eq-eqb x y q))
 
--- ---- the complements
+-- ---- four bytes whose pairs are complementary
 
-module _ (code : List ℕ) (four : length code ≡ 4) where
-  abbrev b-paired : Bool
-  b-paired = eqb (getD code 1 0) (255 - getD code 0 0)
-
-  abbrev c-paired : Bool
-  c-paired = eqb (getD code 3 0) (255 - getD code 2 0)
-
-  pub paired : (not b-paired || not c-paired) ≡ false → readAnswer code ≡ codeAnswer (getD code 0 0) (getD code 2 0)
-  unfolding readAnswer
-  paired e = simp (eq-eqb (length code) 4 four, both-hold b-paired c-paired e)
-
-  pub not-paired : (not b-paired || not c-paired) ≡ true → readAnswer code ≡ refused COMPLEMENT
-  unfolding readAnswer
-  not-paired e = simp (eq-eqb (length code) 4 four, one-fails b-paired c-paired e)
+pub code-again : (code : List ℕ) → length code ≡ 4
+    → (not (eqb (getD code 1 0) (255 - getD code 0 0)) || not (eqb (getD code 3 0) (255 - getD code 2 0))) ≡ false
+    → codeFrom (getD code 0 0) (getD code 2 0) ≡ code
+code-again [] four e = absurd (omega arith)
+code-again (b ∷ []) four e = absurd (omega arith)
+code-again (b ∷ x ∷ []) four e = absurd (omega arith)
+code-again (b ∷ x ∷ c ∷ []) four e = absurd (omega arith)
+code-again (b ∷ x ∷ c ∷ y ∷ []) four e = let pairs = both-equal x (255 - b) y (255 - c) e in cc
+code-again (b ∷ x ∷ c ∷ y ∷ z ∷ zs) four e = absurd (omega arith)
 
 -- ---- the house and the unit taken out of b and c
 
-house-again : (b : ℕ) → b < 256 → houseInB (houseOf (b / 16)) ≡ b / 16 * 16
-house-again b l = ap (λ (n : ℕ). n * 16) (nibble-of-house (b / 16) (omega arith))
+house-again : (b : ℕ) → b < 256 → houseInB (houseOfNibble (b / 16)) ≡ b / 16 * 16
+house-again b l = ap (λ (n : ℕ). n * 16) (house-read-back (b / 16) (omega arith))
 
-house-fits : (b : ℕ) → b < 256 → leb (houseOf (b / 16)) 15 ≡ true
-house-fits b l = le-leb (houseOf (b / 16)) 15 (omega (arith, house-below (b / 16) (omega arith)))
+house-fits : (b : ℕ) → b < 256 → leb (houseOfNibble (b / 16)) 15 ≡ true
+house-fits b l = le-leb (houseOfNibble (b / 16)) 15 (omega (arith, house-of-nibble-below (b / 16) (omega arith)))
 
 -- the masks of bit 1, of bit 2, of bits 2 and 0, and of bits 3, 1 and 0
 two : (n : ℕ) → bitAnd n 2 ≡ n / 2 % 2 * 2
@@ -134,31 +131,31 @@ module _ (b c : ℕ) where
 -- ---- what the definition gives
 
 module _ (b c : ℕ) (small : b < 256) where
-  pub bright-read : b % 16 ≡ 0 → c ≡ 136 → codeAnswer b c ≡ given (Bright (houseOf (b / 16)) ∷ [])
-  bright-read z e = code-given b c (Bright (houseOf (b / 16))) (house-fits b small) (omega (arith, house-again b small)) (sym e)
+  pub bright-read : b % 16 ≡ 0 → c ≡ 136 → readAnswer (codeFrom b c) ≡ read.Command (Bright (houseOfNibble (b / 16)))
+  bright-read z e = code-given b c (Bright (houseOfNibble (b / 16))) (house-fits b small) (omega (arith, house-again b small)) (sym e)
 
-  pub dim-read : b % 16 ≡ 0 → c ≡ 152 → codeAnswer b c ≡ given (Dim (houseOf (b / 16)) ∷ [])
-  dim-read z e = code-given b c (Dim (houseOf (b / 16))) (house-fits b small) (omega (arith, house-again b small)) (sym e)
+  pub dim-read : b % 16 ≡ 0 → c ≡ 152 → readAnswer (codeFrom b c) ≡ read.Command (Dim (houseOfNibble (b / 16)))
+  dim-read z e = code-given b c (Dim (houseOfNibble (b / 16))) (house-fits b small) (omega (arith, house-again b small)) (sym e)
 
   module _ (low : c < 128) (pb : b % 16 ≡ b / 4 % 2 * 4) (pc : c % 8 ≡ 0) where
-    fits : (leb (houseOf (b / 16)) 15 && leb (unitFrom b c) 15) ≡ true
+    fits : (leb (houseOfNibble (b / 16)) 15 && leb (unitFrom b c) 15) ≡ true
     fits = simp (house-fits b small, le-leb (unitFrom b c) 15 (unit-bits b c .small))
 
-    b-again : houseInB (houseOf (b / 16)) + unitInB (unitFrom b c) ≡ b
+    b-again : houseInB (houseOfNibble (b / 16)) + unitInB (unitFrom b c) ≡ b
     b-again = simp (house-again b small, unit-bits b c .eight) (omega arith)
 
-    pub on-read : c / 32 % 2 ≡ 0 → codeAnswer b c ≡ given (On (houseOf (b / 16)) (unitFrom b c) ∷ [])
+    pub on-read : c / 32 % 2 ≡ 0 → readAnswer (codeFrom b c) ≡ read.Command (On (houseOfNibble (b / 16)) (unitFrom b c))
     on-read z =
-        code-given b c (On (houseOf (b / 16)) (unitFrom b c)) fits b-again
+        code-given b c (On (houseOfNibble (b / 16)) (unitFrom b c)) fits b-again
         (omega (arith, unit-again b c low pc))
 
-    pub off-read : (c / 32 % 2 ≡ 0 → ⊥) → codeAnswer b c ≡ given (Off (houseOf (b / 16)) (unitFrom b c) ∷ [])
+    pub off-read : (c / 32 % 2 ≡ 0 → ⊥) → readAnswer (codeFrom b c) ≡ read.Command (Off (houseOfNibble (b / 16)) (unitFrom b c))
     off-read z =
-        code-given b c (Off (houseOf (b / 16)) (unitFrom b c)) fits b-again
+        code-given b c (Off (houseOfNibble (b / 16)) (unitFrom b c)) fits b-again
         (omega (arith, unit-again b c low pc))
 
 module _ (b c : ℕ) where
-  pub no-step : 127 < c → (b % 16 ≡ 0 → (c ≡ 136) ⊎ (c ≡ 152) → ⊥) → codeAnswer b c ≡ refused CODE
+  pub no-step : 127 < c → (b % 16 ≡ 0 → (c ≡ 136) ⊎ (c ≡ 152) → ⊥) → readAnswer (codeFrom b c) ≡ read.Refused refusal.Code
   no-step l never = code-refused b c (λ k ok eb ec. go k eb ec)
     where
       go : (k : RadioCommand) → byteB k ≡ b → byteC k ≡ c → ⊥
@@ -167,7 +164,7 @@ module _ (b c : ℕ) where
       go (Bright h) eb ec = never (omega arith) (inl (sym ec))
       go (Dim h) eb ec = never (omega arith) (inr (sym ec))
 
-  pub no-switch : c < 128 → (b % 16 ≡ b / 4 % 2 * 4 → c % 8 ≡ 0 → ⊥) → codeAnswer b c ≡ refused CODE
+  pub no-switch : c < 128 → (b % 16 ≡ b / 4 % 2 * 4 → c % 8 ≡ 0 → ⊥) → readAnswer (codeFrom b c) ≡ read.Refused refusal.Code
   no-switch l never = code-refused b c (λ k ok eb ec. go k eb ec)
     where
       go : (k : RadioCommand) → byteB k ≡ b → byteC k ≡ c → ⊥

@@ -1,6 +1,6 @@
 -- Radio commands and their four bytes (01, 'Radio bytes').
 use Prim.Native.Nat.{ℕ, _+_, _-_, _*_, _/_, _%_, _^_}
-use mathlib.Core.Bool.{Bool, _&&_}
+use mathlib.Core.Bool.{Bool, true, false, _&&_}
 use mathlib.Core.List.{List, [], _∷_, _++_, flatMap, map}
 use lib.Dec.{eqb, leb}
 use lib.ListN.{getD}
@@ -16,8 +16,8 @@ houseNibbles = 6 ∷ 7 ∷ 4 ∷ 5 ∷ 8 ∷ 9 ∷ 10 ∷ 11 ∷ 14 ∷ 15 ∷ 1
 unfoldable pub nibbleOf : ℕ → ℕ
 nibbleOf h = getD houseNibbles h 0
 
-unfoldable pub houseOf : ℕ → ℕ
-houseOf n = placeIn eqb n houseNibbles
+unfoldable pub houseOfNibble : ℕ → ℕ
+houseOfNibble n = placeIn eqb n houseNibbles
 
 abbrev pub houseInB : ℕ → ℕ
 houseInB h = nibbleOf h * 2 ^ 4
@@ -44,10 +44,13 @@ byteC (Bright h) = 136
 byteC (Dim h) = 152
 
 -- "Four bytes: b, 255-b, c, 255-c."
-abbrev pub fourBytes : RadioCommand → List ℕ
-fourBytes k = byteB k ∷ (255 - byteB k) ∷ byteC k ∷ (255 - byteC k) ∷ []
+abbrev pub codeFrom : ℕ → ℕ → List ℕ
+codeFrom b c = b ∷ (255 - b) ∷ c ∷ (255 - c) ∷ []
 
--- houses and units are 0 to 15
+abbrev pub fourBytes : RadioCommand → List ℕ
+fourBytes k = codeFrom (byteB k) (byteC k)
+
+-- "Houses and units are numbers 0 to 15."
 abbrev pub commandOk : RadioCommand → Bool
 commandOk (On h u) = leb h 15 && leb u 15
 commandOk (Off h u) = leb h 15 && leb u 15
@@ -71,3 +74,18 @@ commands = flatMap commandsOf sixteen
 
 unfoldable pub codes : List (List ℕ)
 codes = map fourBytes commands
+
+-- whether two codes are the same, byte for byte
+abbrev pub sameCode : List ℕ → List ℕ → Bool
+sameCode [] [] = true
+sameCode [] (y ∷ ys) = false
+sameCode (x ∷ xs) [] = false
+sameCode (x ∷ xs) (y ∷ ys) = eqb x y && sameCode xs ys
+
+-- where a code stands among the 544, counted from 0; 544 where it is none of them
+unfoldable pub codePlace : List ℕ → ℕ
+codePlace code = placeIn sameCode code codes
+
+-- the command that has a code (A bright where none has: such bytes are refused)
+unfoldable pub commandOf : List ℕ → RadioCommand
+commandOf code = getD commands (codePlace code) (Bright 0)

@@ -1,10 +1,14 @@
 // Radio bytes: the four bytes of a radio command, the command that four bytes name, and the messages that it means.
+use ground::Refusal;
 use message::Function;
 use message::Message;
 ghost use mathlib.Core.Path.{_≡_};
+ghost use mathlib.Core.List.{[], _∷_};
 ghost use Prim.Native.Nat.{_+_, _/_, _<_};
-ghost use Rattle.radio.specs.Codes.{nibbleOf, houseOf, commandOk, houseInB, unitInB, unitInC, byteB, byteC};
-ghost use Rattle.radio.specs.Answers.{given, answerOfWrite, writeAnswer, answerOfRead, readAnswer, codeAnswer, answerOfMessages, addressThen, messagesOf, messagesAnswer};
+ghost use Rattle.ground.specs.Refusals.{judged, reports, refuses};
+ghost use Rattle.radio.specs.Codes.{nibbleOf, houseOfNibble, commandOk, houseInB, unitInB, unitInC, byteB, byteC, codeFrom, fourBytes, commandOf};
+ghost use Rattle.radio.specs.Answers.{writeCauses, writeAnswer, writeReport, readCauses, readAnswer, readReport};
+ghost use Rattle.radio.specs.Answers.{addressThen, messagesMeant, messagesOf, messagesCauses, messagesAnswer, messagesReport};
 
 // What a transmitter sends. Houses A to P and units 1 to 16 are the numbers 0 to 15; a command with a house or a unit above
 // 15 is a value that routines refuse.
@@ -20,18 +24,14 @@ pub enum RadioBytes {
     // The four bytes, in the order in which they are sent.
     Bytes(u8, u8, u8, u8),
     // A house or unit above 15.
-    RefusedMessage,
+    Refused(Refusal),
 }
 
 // What the reader answers.
 pub enum RadioRead {
     Command(RadioCommand),
-    // Not four bytes.
-    RefusedLength,
-    // The second byte is not the first one's complement, or the fourth not the third one's.
-    RefusedComplement,
-    // No command has these bytes.
-    RefusedCode,
+    // Not four bytes, a pair that is not complementary, or bytes that no command has.
+    Refused(Refusal),
 }
 
 // The messages that a command means, in order.
@@ -39,7 +39,7 @@ pub enum RadioMessages {
     Two(Message, Message),
     One(Message),
     // A house or unit above 15.
-    RefusedMessage,
+    Refused(Refusal),
 }
 
 // The high four bits of b for each house.
@@ -54,9 +54,9 @@ fn nibble_of(house: u8) -> u8
 }
 
 // The house that has these high four bits of b: computed, since a second table would be rebuilt on the stack at each use.
-fn house_of(nibble: u8) -> u8
+fn house_of_nibble(nibble: u8) -> u8
     requires { ⌜ nibble < 16 ⌝ }
-    ensures { λ r. ⌜ r ≡ houseOf nibble ⌝ }
+    ensures { λ r. ⌜ r ≡ houseOfNibble nibble ⌝ }
 {
     (nibble ^ (nibble / 4 % 2 * 10)) ^ 12
 }
@@ -111,10 +111,11 @@ fn byte_c(command: RadioCommand) -> u8
 
 // The four bytes of a command: b, its complement, c, its complement. Refuses a house or unit above 15.
 pub fn write(command: RadioCommand) -> RadioBytes
-    ensures { λ r. ⌜ answerOfWrite r ≡ writeAnswer command ⌝ }
+    ensures answer { λ r. ⌜ r ≡ writeAnswer command ⌝ }
+    ensures report { λ r. ⌜ writeReport r ≡ judged (writeCauses command) (reports (fourBytes command)) refuses ⌝ }
 {
     if !valid(command) {
-        return RadioBytes::RefusedMessage;
+        return RadioBytes::Refused(Refusal::Message);
     }
     let b = byte_b(command);
     let c = byte_c(command);
@@ -123,11 +124,11 @@ pub fn write(command: RadioCommand) -> RadioBytes
 
 // The bright or dim that b and a c of 128 or more name.
 fn step_of(house: u8, b: u8, c: u8) -> RadioRead
-    requires { ⌜ (house ≡ houseOf (b / 16)) × (127 < c) ⌝ }
-    ensures { λ r. ⌜ answerOfRead r ≡ codeAnswer b c ⌝ }
+    requires { ⌜ (house ≡ houseOfNibble (b / 16)) × (127 < c) ⌝ }
+    ensures { λ r. ⌜ r ≡ readAnswer (codeFrom b c) ⌝ }
 {
     if b % 16 != 0 {
-        return RadioRead::RefusedCode;
+        return RadioRead::Refused(Refusal::Code);
     }
     if c == 136 {
         return RadioRead::Command(RadioCommand::Bright { house: house });
@@ -135,16 +136,16 @@ fn step_of(house: u8, b: u8, c: u8) -> RadioRead
     if c == 152 {
         return RadioRead::Command(RadioCommand::Dim { house: house });
     }
-    RadioRead::RefusedCode
+    RadioRead::Refused(Refusal::Code)
 }
 
 // The on or off that b and a c below 128 name. Bits 3, 1 and 0 of b and bits 2, 1 and 0 of c must be 0.
 fn switch_of(house: u8, b: u8, c: u8) -> RadioRead
-    requires { ⌜ (house ≡ houseOf (b / 16)) × (c < 128) ⌝ }
-    ensures { λ r. ⌜ answerOfRead r ≡ codeAnswer b c ⌝ }
+    requires { ⌜ (house ≡ houseOfNibble (b / 16)) × (c < 128) ⌝ }
+    ensures { λ r. ⌜ r ≡ readAnswer (codeFrom b c) ⌝ }
 {
     if (b & 11 != 0) | (c % 8 != 0) {
-        return RadioRead::RefusedCode;
+        return RadioRead::Refused(Refusal::Code);
     }
     // b's bit 2 is the unit's 8; in c / 16 its 4 and 1 stand at their own places, and in c / 4 its 2.
     let unit = (b & 4) * 2 + ((c / 16) & 5) + ((c / 4) & 2);
@@ -161,11 +162,11 @@ fn switch_of(house: u8, b: u8, c: u8) -> RadioRead
     }
 }
 
-// The command that b and c name. One call of house_of for both kinds keeps read small enough to be inlined.
+// The command that b and c name. One call of house_of_nibble for both kinds keeps read small enough to be inlined.
 fn command_of(b: u8, c: u8) -> RadioRead
-    ensures { λ r. ⌜ answerOfRead r ≡ codeAnswer b c ⌝ }
+    ensures { λ r. ⌜ r ≡ readAnswer (codeFrom b c) ⌝ }
 {
-    let house = house_of(b / 16);
+    let house = house_of_nibble(b / 16);
     if c < 128 {
         switch_of(house, b, c)
     } else {
@@ -176,22 +177,23 @@ fn command_of(b: u8, c: u8) -> RadioRead
 // The command that four bytes name. Refuses what are not four bytes, then pairs that are not complementary, then bytes that no
 // command has.
 pub fn read(code: &[u8]) -> RadioRead
-    ensures { λ r. ⌜ answerOfRead r ≡ readAnswer (now (code .entry)) ⌝ }
+    ensures answer { λ r. ⌜ r ≡ readAnswer (now (code .entry)) ⌝ }
+    ensures report { λ r. ⌜ readReport r ≡ judged (readCauses (now (code .entry))) (reports (commandOf (now (code .entry)) ∷ [])) refuses ⌝ }
 {
     if code.len() != 4 {
-        return RadioRead::RefusedLength;
+        return RadioRead::Refused(Refusal::RfLength);
     }
     let b = code[0];
     let c = code[2];
     if (code[1] != 255 - b) | (code[3] != 255 - c) {
-        return RadioRead::RefusedComplement;
+        return RadioRead::Refused(Refusal::Complement);
     }
     command_of(b, c)
 }
 
 // An address, then a function.
 fn addressed(house: u8, unit: u8, function: Function) -> RadioMessages
-    ensures { λ r. ⌜ answerOfMessages r ≡ given (addressThen house unit function) ⌝ }
+    ensures { λ r. ⌜ r ≡ addressThen house unit function ⌝ }
 {
     RadioMessages::Two(
         Message::Address {
@@ -206,8 +208,8 @@ fn addressed(house: u8, unit: u8, function: Function) -> RadioMessages
 }
 
 // The messages of a command.
-fn meaning(command: RadioCommand) -> RadioMessages
-    ensures { λ r. ⌜ answerOfMessages r ≡ given (messagesOf command) ⌝ }
+fn messages_meant(command: RadioCommand) -> RadioMessages
+    ensures { λ r. ⌜ r ≡ messagesMeant command ⌝ }
 {
     match command {
         RadioCommand::On { house, unit } => addressed(house, unit, Function::On),
@@ -225,10 +227,11 @@ fn meaning(command: RadioCommand) -> RadioMessages
 
 // What a command means, as messages on the mains. Refuses a house or unit above 15.
 pub fn messages(command: RadioCommand) -> RadioMessages
-    ensures { λ r. ⌜ answerOfMessages r ≡ messagesAnswer command ⌝ }
+    ensures answer { λ r. ⌜ r ≡ messagesAnswer command ⌝ }
+    ensures report { λ r. ⌜ messagesReport r ≡ judged (messagesCauses command) (reports (messagesOf command)) refuses ⌝ }
 {
     if !valid(command) {
-        return RadioMessages::RefusedMessage;
+        return RadioMessages::Refused(Refusal::Message);
     }
-    meaning(command)
+    messages_meant(command)
 }

@@ -115,7 +115,7 @@ fn put_row(command: RadioCommand) -> Row {
     let row = put_command(command);
     match radio::write(command) {
         RadioBytes::Bytes(b, _, c, _) => put_bits(put_bits(row, b), c),
-        RadioBytes::RefusedMessage => row,
+        RadioBytes::Refused(_) => row,
     }
 }
 

@@ -1,8 +1,9 @@
--- `messages` meets its contract: the test is that of the definition.
-use mathlib.Core.Path.{sym, _∙_}
+-- `messages` meets its contract: the test is that of `messagesCauses`, and the messages are those that the command means.
+use mathlib.Core.Path.{ap, _∙_}
 use borrow.Author.Needs.{needs}
-use borrow.Author.Tests.{not-true, not-false}
-use Rattle.radio.specs.Answers.{messagesAnswer}
+use Rattle.ground.proofs.Causes.{ladder}
+use Rattle.radio.specs.Answers.{messagesAnswer, messagesReport}
+use Rattle.radio.proofs.AnswerLaws.{meant-reported}
 use Rattle.radio.proofs.messages.Statement.{statement}
 use Rattle.radio.proofs.messages.Tie as tie
 
@@ -11,14 +12,16 @@ valid-requires c κs = search needs
 
 returns : tie.Need-returns
 unfolding messagesAnswer
-returns c = simp (sym (c .before .valid .ensures) ∙ not-true _ (c .if1 .taken))
+returns c = search ladder
 
-meaning-requires : tie.Need-meaning-requires
-meaning-requires c κs = search needs
+messages-meant-requires : tie.Need-messages-meant-requires
+messages-meant-requires c κs = search needs
 
 returns-2 : tie.Need-returns-2
 unfolding messagesAnswer
-returns-2 c = simp (c .meaning .ensures, sym (c .before .before .valid .ensures) ∙ not-false _ (c .before .if1 .left))
+returns-2 c =
+    let reported = ap messagesReport (c .messages-meant .ensures) ∙ meant-reported (c .before .before .before .args .command) in
+    search ladder
 
 pub messages-spec : {M : Type 1} → statement M
-messages-spec = tie.close (tie.spec valid-requires returns meaning-requires returns-2)
+messages-spec = tie.close (tie.spec valid-requires returns messages-meant-requires returns-2)

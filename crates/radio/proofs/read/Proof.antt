@@ -1,17 +1,18 @@
--- `read` meets its contract: its tests are those of the definition, in the same order; the bytes of a slice are below 256, so the
--- complements do not go below 0.
-use mathlib.Core.Path.{sym, _∙_}
+-- `read` meets its contract: its tests are those of `readCauses`, in their order, and of four bytes whose pairs are complementary b and c
+-- make the code again. The bytes of a slice are below 256, so the complements do not go below 0.
+use mathlib.Core.Path.{ap, _∙_}
 use native.Mathlib.Omega.{arith}
 use borrow.Author.Needs.{needs}
-use borrow.Author.Tests.{ne-eqb}
-use Rattle.radio.specs.Answers.{readAnswer}
-use Rattle.radio.proofs.ReaderLaws.{paired, not-paired}
+use Rattle.ground.proofs.Causes.{ladder}
+use Rattle.radio.specs.Answers.{readAnswer, readReport}
+use Rattle.radio.proofs.AnswerLaws.{read-reported}
+use Rattle.radio.proofs.ReaderLaws.{one-fails, code-again}
 use Rattle.radio.proofs.read.Statement.{statement}
 use Rattle.radio.proofs.read.Tie as tie
 
 returns : tie.Need-returns
 unfolding readAnswer
-returns c = simp (ne-eqb _ _ (c .if1 .taken))
+returns c = search ladder
 
 shared-slice-read-b : tie.Need-shared-slice-read-b
 shared-slice-read-b c = search needs
@@ -32,15 +33,19 @@ sub-if2-2 : tie.Need-sub-if2-2
 sub-if2-2 c = omega (arith, c .shared-slice-known5 .given 0, c .shared-slice-known5 .given 2)
 
 returns-2 : tie.Need-returns-2
-returns-2 c = sym (not-paired _ (c .before .before .before .before .before .if1 .left) (c .if2 .taken))
+unfolding readAnswer
+returns-2 c = search (ladder, one-fails)
 
 command-of-requires : tie.Need-command-of-requires
 command-of-requires c κs = search needs
 
 returns-3 : tie.Need-returns-3
 returns-3 c =
-    let four = c .before .before .before .before .before .before .if1 .left in
-    c .command-of .ensures ∙ sym (paired _ four (c .before .if2 .left))
+    let four = c .before .before .before .before .before .before in
+    let code = four .before .before .args .code .now in
+    let again = code-again code (four .if1 .left) (c .before .if2 .left) in
+    let answer = c .command-of .ensures ∙ ap readAnswer again in
+    (answer, ap readReport answer ∙ read-reported code)
 
 pub read-spec : {M : Type 1} → statement M
 read-spec =

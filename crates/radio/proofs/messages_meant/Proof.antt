@@ -1,7 +1,7 @@
--- `meaning` meets its contract: in each arm the command is the one that the pattern names.
+-- `messages_meant` meets its contract: in each arm the command is the one that the pattern names.
 use borrow.Author.Needs.{needs}
-use Rattle.radio.proofs.meaning.Statement.{statement}
-use Rattle.radio.proofs.meaning.Tie as tie
+use Rattle.radio.proofs.messages_meant.Statement.{statement}
+use Rattle.radio.proofs.messages_meant.Tie as tie
 
 enum-known-command : tie.Need-enum-known-command
 enum-known-command c = search needs
@@ -33,8 +33,8 @@ returns-3 c = rw (c .before .command3 .given .1)
 returns-4 : tie.Need-returns-4
 returns-4 c = rw (c .before .command4 .given .1)
 
-pub meaning-spec : {M : Type 1} → statement M
-meaning-spec =
+pub messages-meant-spec : {M : Type 1} → statement M
+messages-meant-spec =
     tie.close
     (tie.spec
     enum-known-command

@@ -1,0 +1,48 @@
+-- What holds of radio bytes as a whole (01, 'Radio bytes'), said of the definitions in the contracts of `write`, `read` and `messages`.
+use mathlib.Core.Path.{_≡_}
+use mathlib.Core.Bool.{true}
+use mathlib.Core.List.{List, [], List·Memᴰ}
+use Prim.Native.Nat.{ℕ, _<_}
+use lib.ListN.{length, getD}
+use Rattle.ground.specs.Refusals.{reports, lowest}
+use Rattle.message.specs.Messages.{messageOk}
+use Rattle.message.specs.declared.Message.{Message}
+use Rattle.radio.specs.Codes.{nibbleOf, commandOk, fourBytes, codes}
+use Rattle.radio.specs.Answers.{writeCauses, writeAnswer, writeReport, readCauses, readAnswer, readReport, messagesCauses, messagesAnswer, messagesReport}
+use Rattle.radio.specs.declared.RadioCommand.{RadioCommand}
+use Rattle.radio.specs.declared.RadioRead.the-variants as read
+
+-- No four bits stand for two houses: "each shown to be one-to-one".
+abbrev pub NibblesOneToOne : Type 0
+NibblesOneToOne = (g h : ℕ) → g < 16 → h < 16 → nibbleOf g ≡ nibbleOf h → g ≡ h
+
+-- No two commands share a code.
+abbrev pub NoSharedCode : Type 0
+NoSharedCode = (j k : RadioCommand) → commandOk j ≡ true → commandOk k ≡ true → fourBytes j ≡ fourBytes k → j ≡ k
+
+-- "There are 544 codes": of all lists of bytes, those that the reader does not refuse are the 544 of one list, which has none twice.
+pub record Exactly544 : Type 0 where
+  pub as-many : length codes ≡ 544
+  pub none-twice : (i j : ℕ) → i < 544 → j < 544 → getD codes i [] ≡ getD codes j [] → i ≡ j
+  pub each-read : (code : List ℕ) → List·Memᴰ code codes → readReport (readAnswer code) .number ≡ 0
+  pub no-other : (code : List ℕ) → readReport (readAnswer code) .number ≡ 0 → List·Memᴰ code codes
+
+-- Reading what was written gives the command back: a command with house and unit 0 to 15 is written as its four bytes, and these are
+-- read as that command.
+abbrev pub ReadOfWritten : Type 0
+ReadOfWritten = (k : RadioCommand) → commandOk k ≡ true
+    → (writeReport (writeAnswer k) ≡ reports (fourBytes k)) × (readAnswer (fourBytes k) ≡ read.Command k)
+
+-- Writing what was read gives the four bytes back: where the reader gives a command for bytes, the writer gives them for it.
+abbrev pub WrittenOfRead : Type 0
+WrittenOfRead = (k : RadioCommand) (code : List ℕ) → readAnswer code ≡ read.Command k → writeReport (writeAnswer k) ≡ reports code
+
+-- What a command means is valid: each message that is given for it, whatever the command.
+abbrev pub MessagesValid : Type 0
+MessagesValid = (k : RadioCommand) (m : Message) → List·Memᴰ m (messagesReport (messagesAnswer k) .values) → messageOk m ≡ true
+
+-- "Within one routine the lowest number that applies is given."
+pub record LowestNumbers : Type 0 where
+  pub by-write : (k : RadioCommand) → writeReport (writeAnswer k) .number ≡ lowest (writeCauses k)
+  pub by-read : (code : List ℕ) → readReport (readAnswer code) .number ≡ lowest (readCauses code)
+  pub by-messages : (k : RadioCommand) → messagesReport (messagesAnswer k) .number ≡ lowest (messagesCauses k)
