@@ -24,7 +24,7 @@ use Rattle.burst.specs.Frames.{frameLength}
 use Rattle.receiver.specs.Receivers.{pairOf, completeOf, says, pairsOk}
 use Rattle.receiver.specs.declared.Given.{Given}
 use Rattle.receiver.specs.declared.Event.the-variants.{Nothing}
-use Rattle.hearing.proofs.Steps.{standing}
+use Rattle.receiver_laws.proofs.Steps.{standing}
 
 half-word : (w i : ℕ) → w / 2 ^ suc i ≡ w / 2 ^ i / 2
 half-word w i = sym (shr-shr w i 1 ∙ ap (λ (n : ℕ). w / 2 ^ n) (add-one i))

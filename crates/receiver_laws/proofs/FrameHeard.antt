@@ -26,11 +26,11 @@ use Rattle.receiver.specs.declared.Given.{Given}
 use Rattle.receiver.specs.declared.Given.the-variants.{No, Yes}
 use Rattle.receiver.specs.declared.Receiver.{Receiver}
 use Rattle.receiver.specs.declared.Event.the-variants.{Nothing, Message as Gives, Repeat, BrokenPair}
-use Rattle.hearing.specs.Whole.{Ready, frameEvents, lastSix}
-use Rattle.hearing.proofs.Runs.{Run, run-none, run-more, run-append}
-use Rattle.hearing.proofs.Steps.{standing, standing-ok, hunting-ok, NoStart, no-start-one, hunts-on, hunts-start, step-wanted, step-unwanted, step-first, step-second, step-equal}
-use Rattle.hearing.proofs.FrameBits.{Framed, twice, one-more-bit, pairs-few}
-use Rattle.hearing.proofs.Pasts.{start, paired}
+use Rattle.receiver_laws.specs.Whole.{Ready, frameEvents, lastSix}
+use Rattle.receiver_laws.proofs.Runs.{Run, run-none, run-more, run-append}
+use Rattle.receiver_laws.proofs.Steps.{standing, standing-ok, hunting-ok, NoStart, no-start-one, hunts-on, hunts-start, step-wanted, step-unwanted, step-first, step-second, step-equal}
+use Rattle.receiver_laws.proofs.FrameBits.{Framed, twice, one-more-bit, pairs-few}
+use Rattle.receiver_laws.proofs.Pasts.{start, paired}
 
 -- ---- the pairs
 

@@ -13,7 +13,7 @@ use Rattle.receiver.specs.Receivers.{freshReceiver}
 use Rattle.receiver.specs.Hearing.{eventsOf}
 use Rattle.receiver.specs.declared.Event.{Event}
 use Rattle.receiver.specs.declared.Event.the-variants.{Nothing, Message as Gives, Repeat, BrokenPair, BrokenUnsupported, RefusedHalf, RefusedState}
-use Rattle.hearing.specs.Whole.{clear}
+use Rattle.receiver_laws.specs.Whole.{clear}
 
 -- the half-cycle at i inverted, the others as they are
 unfoldable pub inverted : ℕ → List ℕ → List ℕ
