@@ -3,14 +3,15 @@
 --     Taken, taken                       the ways in which a half-cycle is taken, each with what holds there
 --     step-number                        the event's number is 01's number for the call
 --     at-most, valid-parts               what holds of a receiver that is not refused
+--     nineOk, nine-ok                    what nine bits say, judged by their numbers; one computed test over the table of meanings
 --     read-nine, read-all, last-code     a complete frame's bits are not refused
 --     lowest-first, fresh-is-valid, stays-valid, gives-valid      LowestFirst, FreshIsValid, StaysValid and GivesValid
 use mathlib.Core.Path.{_≡_, refl, sym, ap, _∙_}
-use mathlib.Core.Bool.{Bool, true, false, _&&_, and-eq-true-iff}
+use mathlib.Core.Bool.{Bool, true, false, false≢true, _&&_, not, and-eq-true-iff, and-false}
 use Prim.Native.Nat.{ℕ, _+_, _-_, _*_, _/_, _%_, _^_, _≤_, _<_}
 use native.Mathlib.Omega.{arith}
 use native.Mathlib.Decide.{decLe, ℕ-discrete}
-use borrow.Author.Tests.{leb-true, eqb-true, le-leb, lt-leb, lt-ltb, eq-eqb, ne-eqb}
+use borrow.Author.Tests.{leb-true, eqb-true, not-true, le-leb, lt-leb, lt-ltb, eq-eqb, ne-eqb}
 use lib.Dec.{leb, eqb, lit<, lit≤}
 use lib.Pow.{field, mod-mod-pow, shr-shr}
 use Rattle.ground.specs.Choice.{pick}
@@ -23,12 +24,10 @@ use Rattle.message.specs.Messages.{messageOk}
 use Rattle.message.specs.Words.{functionReading, standardOf, extendedOf, standardAnswer, extendedAnswer}
 use Rattle.message.specs.declared.Message.{Message}
 use Rattle.message.specs.declared.Message.the-variants.{Address}
-use Rattle.message.specs.declared.codes.Meaning.{Meaning}
-use Rattle.message.specs.declared.codes.Meaning.the-variants.{Function as Carries, Extended as Begins, Unsupported as Unknown}
 use Rattle.message.specs.declared.word.Reading.{Reading}
 use Rattle.message.specs.declared.word.Reading.the-variants.{Message as Says, Longer, Unsupported, Refused as NotRead}
 use Rattle.message.proofs.Tables.{every-at}
-use Rattle.message.proofs.CodeLaws.{number-below, extended-meaning}
+use Rattle.message.proofs.CodeLaws.{number-below}
 use Rattle.receiver.specs.declared.Given.{Given}
 use Rattle.receiver.specs.declared.Given.the-variants.{No, Yes}
 use Rattle.receiver.specs.declared.Receiver.{Receiver}
@@ -85,6 +84,33 @@ module _ (r : Receiver) (h : ℕ) where
       go (no n) (yes a) = rw (ne-eqb (r .at) 0 n, le-leb (r .at) 4 a) (taken-await a)
       go (no n) (no b) = let past : 4 < r .at = omega arith in rw (ne-eqb (r .at) 0 n, lt-leb (r .at) 4 past) (taken-read past)
 
+-- ---- what nine bits say
+
+number-ok : (c : ℕ) → leb (numberOf (c % 16)) 15 ≡ true
+number-ok c = let low : c % 16 < 16 = omega arith in le-leb (numberOf (c % 16)) 15 (omega (arith, number-below (c % 16) low))
+
+abbrev tenToTwelve : ℕ → Bool
+tenToTwelve c = leb 10 c && leb c 12
+
+-- by the function bit and the code: a message is valid, only code 7 begins a longer frame, and codes 10, 11 and 12 alone are unsupported
+abbrev nineOk : Bool → ℕ → Reading → Bool
+nineOk b c (Says m) = messageOk m && not (b && tenToTwelve c)
+nineOk b c Longer = b && eqb c 7
+nineOk b c Unsupported = b && tenToTwelve c
+nineOk b c (NotRead why) = false
+
+function-ok : (house c : ℕ) → leb house 15 ≡ true → c < 16 → nineOk true c (functionReading house (meaningOf c)) ≡ true
+unfolding meaningOf meanings
+function-ok house c ok low = every-at (λ k x. nineOk true k (functionReading house x)) meanings (meaningOf 16) c (rw ok) low
+
+nine-ok : (w : ℕ) → nineOk (eqb (w % 2) 1) (w / 2 % 16) (standardOf w) ≡ true
+unfolding standardOf
+nine-ok w = go (ℕ-discrete (w % 2) 0)
+  where
+    go : Dec (w % 2 ≡ 0) → nineOk (eqb (w % 2) 1) (w / 2 % 16) (standardOf w) ≡ true
+    go (yes z) = simp (z, number-ok (w / 32), number-ok (w / 2))
+    go (no n) = let one : w % 2 ≡ 1 = omega arith in rw one (function-ok (numberOf (w / 32 % 16)) (w / 2 % 16) (number-ok (w / 32)) (omega arith))
+
 -- ---- the number of a call
 
 complete-number : (given : Given) (m : Message) (past : ℕ) → eventNumber (completeOf given m past .event) ≡ 0
@@ -95,23 +121,17 @@ complete-number given m past = go (isRepeat given m)
     go true = refl
     go false = refl
 
--- the number that a code's meaning makes of the ninth pair
-abbrev breakOf : Meaning → ℕ
-breakOf (Carries f) = 0
-breakOf Begins = 0
-breakOf Unknown = 11
-
-abbrev ten-to-twelve : ℕ → ℕ
-ten-to-twelve c = pick (leb 10 c && leb c 12) 11 0
-
-break-of-code : (c : ℕ) → c < 16 → breakOf (meaningOf c) ≡ ten-to-twelve c
-unfolding meaningOf meanings
-break-of-code c low = eqb-true (breakOf (meaningOf c)) (ten-to-twelve c) (every-at (λ k x. eqb (breakOf x) (ten-to-twelve k)) meanings Unknown c refl low)
-
-function-number : (r : Receiver) (bits past house : ℕ) (x : Meaning) → eventNumber (outcomeOf r bits past (functionReading house x) .event) ≡ breakOf x
-function-number r bits past house (Carries f) = complete-number (r .given) _ past
-function-number r bits past house Begins = refl
-function-number r bits past house Unknown = refl
+outcome-number : (r : Receiver) (bits past : ℕ) (x : Reading) (b : Bool) (c : ℕ) → nineOk b c x ≡ true
+    → eventNumber (outcomeOf r bits past x .event) ≡ pick (b && tenToTwelve c) 11 0
+outcome-number r bits past (Says m) b c t =
+    let other : (b && tenToTwelve c) ≡ false = not-true (b && tenToTwelve c) (and-eq-true-iff (messageOk m) (not (b && tenToTwelve c)) .0 t .1) in
+    complete-number (r .given) m past ∙ sym (rw other)
+outcome-number r bits past Longer b c t =
+    let seven = eqb-true c 7 (and-eq-true-iff b (eqb c 7) .0 t .1) in
+    let other : tenToTwelve c ≡ false = ap tenToTwelve seven in
+    sym (rw (other, and-false b))
+outcome-number r bits past Unsupported b c t = sym (rw t)
+outcome-number r bits past (NotRead why) b c t = absurd (false≢true t)
 
 module _ (r : Receiver) (h : ℕ) where
   -- what stands for the number where the pair is complete and unequal
@@ -121,18 +141,14 @@ module _ (r : Receiver) (h : ℕ) where
 
   ninth-number : r .at ≡ 22 → (r .past % 2 ≡ h → ⊥)
       → eventNumber (outcomeOf r (bitsAfter r) (shifted (r .past) h) (standardOf (bitsAfter r)) .event) ≡ brokenNumber r h
-  unfolding standardOf
-  ninth-number e d = go (ℕ-discrete (r .past % 2) 0) ∙ sym (unequal (omega arith) (omega arith) d)
-    where
-      go : Dec (r .past % 2 ≡ 0) → eventNumber (outcomeOf r (bitsAfter r) (shifted (r .past) h) (standardOf (bitsAfter r)) .event) ≡ pick (unsupportedCode r) 11 0
-      go (yes z) =
-          let even : bitsAfter r % 2 ≡ 0 = omega arith in
-          simp (eq-eqb (bitsAfter r % 2) 0 even, complete-number, eq-eqb (r .at) 22 e, ne-eqb (r .past % 2) 1 (λ o. omega arith))
-      go (no n) =
-          let odd : bitsAfter r % 2 ≡ 0 → ⊥ = λ z. omega arith in
-          let one : r .past % 2 ≡ 1 = omega arith in
-          let code : bitsAfter r / 2 % 16 ≡ r .bits % 16 = omega arith in
-          simp (ne-eqb (bitsAfter r % 2) 0 odd, function-number, code, break-of-code (r .bits % 16) (omega arith), eq-eqb (r .at) 22 e, eq-eqb (r .past % 2) 1 one)
+  ninth-number e d =
+      let w = bitsAfter r in
+      let bit : w % 2 ≡ r .past % 2 = omega arith in
+      let half : w / 2 ≡ r .bits % 2 ^ 28 = omega arith in
+      let code : w / 2 % 16 ≡ r .bits % 16 = ap (λ (n : ℕ). n % 16) half ∙ mod-mod-pow (r .bits) 24 4 in
+      outcome-number r w (shifted (r .past) h) (standardOf w) (eqb (w % 2) 1) (w / 2 % 16) (nine-ok w)
+      ∙ (rw (bit, code, eq-eqb (r .at) 22 e))
+      ∙ sym (unequal (omega arith) (omega arith) d)
 
   number-taken : {o : Heard} → Taken r h o → eventNumber (o .event) ≡ brokenNumber r h
   unfolding huntOf brokenNumber
@@ -216,13 +232,17 @@ last-code r ok e =
     ∙ ap (λ (k : ℕ). r .bits / 2 ^ k % 32) further
     ∙ extended-code (r .at) (r .bits) (omega arith) ok
 
+-- j bits above the lowest k, where n more are kept above them
+part : (w n j k : ℕ) → w % 2 ^ (n + j + k) / 2 ^ k % 2 ^ j ≡ w / 2 ^ k % 2 ^ j
+part w n j k = ap (λ (x : ℕ). x % 2 ^ j) (field w (n + j) k) ∙ mod-mod-pow (w / 2 ^ k) n j
+
 pub read-nine : (w : ℕ) → standardAnswer (w % 512) ≡ standardOf w
 unfolding standardAnswer judged standardOf
 read-nine w =
     let low : w % 512 < 2 ^ 9 = omega arith in
     let bit : w % 512 % 2 ≡ w % 2 = omega arith in
-    let code : w % 512 / 2 % 16 ≡ w / 2 % 16 = omega arith in
-    let house : w % 512 / 32 % 16 ≡ w / 32 % 16 = omega arith in
+    let code : w % 512 / 2 % 16 ≡ w / 2 % 16 = part w 4 4 1 in
+    let house : w % 512 / 32 % 16 ≡ w / 32 % 16 = part w 0 4 5 in
     rw (lt-ltb (w % 512) (2 ^ 9) low, bit, code, house)
 
 pub read-all : (w : ℕ) → w / 2 ^ 20 % 32 ≡ 15 → extendedAnswer (w % 536870912) ≡ Says (extendedOf w)
@@ -230,12 +250,12 @@ unfolding extendedAnswer judged
 read-all w begun =
     let n = w % 536870912 in
     let low : n < 2 ^ 29 = omega arith in
-    let code : n / 2 ^ 20 % 32 ≡ 15 = omega arith in
-    let house : n / 2 ^ 25 % 16 ≡ w / 2 ^ 25 % 16 = omega arith in
-    let unit : n / 2 ^ 16 % 16 ≡ w / 2 ^ 16 % 16 = omega arith in
-    let data : n / 256 % 256 ≡ w / 256 % 256 = omega arith in
+    let code : n / 2 ^ 20 % 32 ≡ 15 = part w 4 5 20 ∙ begun in
+    let house : n / 2 ^ 25 % 16 ≡ w / 2 ^ 25 % 16 = part w 0 4 25 in
+    let unit : n / 2 ^ 16 % 16 ≡ w / 2 ^ 16 % 16 = part w 9 4 16 in
+    let «data» : n / 256 % 256 ≡ w / 256 % 256 = part w 13 8 8 in
     let command : n % 256 ≡ w % 256 = omega arith in
-    rw (lt-ltb n (2 ^ 29) low, eq-eqb (n / 2 ^ 20 % 32) 15 code, house, unit, data, command)
+    rw (lt-ltb n (2 ^ 29) low, eq-eqb (n / 2 ^ 20 % 32) 15 code, house, unit, «data», command)
 
 -- ---- the messages are valid
 
@@ -255,21 +275,14 @@ readsOk Longer = true
 readsOk Unsupported = true
 readsOk (NotRead why) = true
 
-number-ok : (c : ℕ) → leb (numberOf (c % 16)) 15 ≡ true
-number-ok c = let low : c % 16 < 16 = omega arith in le-leb (numberOf (c % 16)) 15 (omega (arith, number-below (c % 16) low))
-
-function-ok : (c : ℕ) (x : Meaning) → readsOk (functionReading (numberOf (c % 16)) x) ≡ true
-function-ok c (Carries f) = number-ok c
-function-ok c Begins = refl
-function-ok c Unknown = refl
+reads-ok : (b : Bool) (c : ℕ) (x : Reading) → nineOk b c x ≡ true → readsOk x ≡ true
+reads-ok b c (Says m) t = and-eq-true-iff (messageOk m) (not (b && tenToTwelve c)) .0 t .0
+reads-ok b c Longer t = refl
+reads-ok b c Unsupported t = refl
+reads-ok b c (NotRead why) t = refl
 
 standard-ok : (w : ℕ) → readsOk (standardOf w) ≡ true
-unfolding standardOf
-standard-ok w = go (eqb (w % 2) 0)
-  where
-    go : (b : Bool) → readsOk (pick b (Says (Address (numberOf (w / 32 % 16)) (numberOf (w / 2 % 16)))) (functionReading (numberOf (w / 32 % 16)) (meaningOf (w / 2 % 16)))) ≡ true
-    go true = simp (number-ok (w / 32), number-ok (w / 2))
-    go false = function-ok (w / 32) (meaningOf (w / 2 % 16))
+standard-ok w = reads-ok (eqb (w % 2) 1) (w / 2 % 16) (standardOf w) (nine-ok w)
 
 extended-ok : (w : ℕ) → messageOk (extendedOf w) ≡ true
 extended-ok w = simp (number-ok (w / 2 ^ 25), number-ok (w / 2 ^ 16))
@@ -329,24 +342,14 @@ hunt-stays past h bit = go (eqb past 7 && eqb h 0)
     go true = valid-of (shifted past h) 5 0 No (omega arith) (low-pairs 5 0 (lit≤ tt)) refl
     go false = valid-of (shifted past h) 0 0 No (omega arith) (low-pairs 0 0 (lit≤ tt)) refl
 
-longer-of : (house : ℕ) (x : Meaning) → functionReading house x ≡ Longer → x ≡ Begins
-longer-of house (Carries f) e = absurd (let z : _≡_ {A = ℕ} 0 1 = cc in omega arith)
-longer-of house Begins e = refl
-longer-of house Unknown e = absurd (let z : _≡_ {A = ℕ} 0 1 = cc in omega arith)
-
 -- only code 7 with function bit 1 begins an extended message
 begun-code : (w : ℕ) → standardOf w ≡ Longer → w % 32 ≡ 15
-unfolding standardOf
-begun-code w e = go (ℕ-discrete (w % 2) 0)
-  where
-    go : Dec (w % 2 ≡ 0) → w % 32 ≡ 15
-    go (yes z) =
-        let whole : Says (Address (numberOf (w / 32 % 16)) (numberOf (w / 2 % 16))) ≡ Longer = rw (eq-eqb (w % 2) 0 z) at e in
-        absurd (let z : _≡_ {A = ℕ} 0 1 = cc in omega arith)
-    go (no n) =
-        let begun : functionReading (numberOf (w / 32 % 16)) (meaningOf (w / 2 % 16)) ≡ Longer = rw (ne-eqb (w % 2) 0 n) at e in
-        let seven : w / 2 % 16 ≡ 7 = extended-meaning (w / 2 % 16) (omega arith) (longer-of (numberOf (w / 32 % 16)) (meaningOf (w / 2 % 16)) begun) in
-        omega arith
+begun-code w e =
+    let t : (eqb (w % 2) 1 && eqb (w / 2 % 16) 7) ≡ true = ap (nineOk (eqb (w % 2) 1) (w / 2 % 16)) (sym e) ∙ nine-ok w in
+    let p = and-eq-true-iff (eqb (w % 2) 1) (eqb (w / 2 % 16) 7) .0 t in
+    let bit : w % 2 ≡ 1 = eqb-true (w % 2) 1 (p .0) in
+    let code : w / 2 % 16 ≡ 7 = eqb-true (w / 2 % 16) 7 (p .1) in
+    omega arith
 
 outcome-stays : (r : Receiver) (bits past : ℕ) (x : Reading) → receiverOk r ≡ true → past ≤ 63 → readsOk x ≡ true
     → (x ≡ Longer → pairsOk (r .at + 1) bits ≡ true) → receiverOk (outcomeOf r bits past x .next) ≡ true

@@ -16,7 +16,7 @@ returns : tie.Need-returns
 returns c = search needs
 
 returns-2 : tie.Need-returns-2
-returns-2 c = simp (c .same .ensures, c .before .given .given .1)
+returns-2 c = simp (c .same .ensures, c .before .before .given .given .1)
 
 pub is-repeat-spec : {M : Type 1} → statement M
 is-repeat-spec =

@@ -21,7 +21,7 @@ saying-requires c κs = search needs
 
 returns : tie.Need-returns
 unfolding stepOf
-returns c = numbered _ _ (search ladder)
+returns c = let given = c .before .before .args in numbered (given .r) (given .half) (search ladder)
 
 valid-requires : tie.Need-valid-requires
 valid-requires c κs = search needs
@@ -31,14 +31,14 @@ saying-requires-2 c κs = search needs
 
 returns-2 : tie.Need-returns-2
 unfolding stepOf
-returns-2 c = numbered _ _ (search ladder)
+returns-2 c = let given = c .before .before .before .before .args in numbered (given .r) (given .half) (search ladder)
 
 takes-requires : tie.Need-takes-requires
 takes-requires c κs = (c .before .before .if1 .left, valid-parts (c .before .before .before .args .r) (sym (c .before .valid .ensures) ∙ not-false _ (c .if2 .left)) .0)
 
 returns-3 : tie.Need-returns-3
 unfolding stepOf
-returns-3 c = numbered _ _ (search ladder)
+returns-3 c = let given = c .before .before .before .before .args in numbered (given .r) (given .half) (search ladder)
 
 pub step-spec : {M : Type 1} → statement M
 step-spec =
