@@ -27,8 +27,8 @@ use Rattle.station.specs.declared.Station.{Station}
 use Rattle.station.specs.declared.Turn.{Turn}
 use Rattle.bench.specs.declared.BenchAnswer.the-variants.{Line}
 use Rattle.bench.specs.declared.BenchTurn.{BenchTurn}
-use Rattle.hearing.proofs.Rests.{Rests, rests-ready}
-use Rattle.hearing.proofs.Standing.{standsAt, eventAt, stands-last, repeat-ends}
+use Rattle.receiver_laws.proofs.Rests.{Rests, rests-ready}
+use Rattle.receiver_laws.proofs.Standing.{standsAt, eventAt, stands-last, repeat-ends}
 use Rattle.access.specs.Calls.{Moment, linesOf, eventsIn, hears}
 use Rattle.access.specs.Demand3.{SaysDone, SentAndHeard}
 use Rattle.access.proofs.BurstLaws.{burst-most, counted, countedBy, counted-append, clear-briefly}

@@ -15,7 +15,7 @@ use Rattle.message.specs.declared.Message.{Message}
 use Rattle.message.specs.declared.Message.the-variants.{Address, Function as Command, Extended}
 use Rattle.burst.specs.Frames.{pairsOf, frameOf, burstOf, burstLength}
 use Rattle.burst.proofs.FrameLaws.{burst-length}
-use Rattle.hearing.proofs.Pasts.{Bits, bits-of}
+use Rattle.receiver_laws.proofs.Pasts.{Bits, bits-of}
 
 pub burst-some : (m : Message) → 44 ≤ burstLength m
 burst-some (Address h u) = omega arith

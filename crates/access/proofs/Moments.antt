@@ -24,8 +24,8 @@ use Rattle.station.specs.Stations.{emptyStation, stationOk, sendsOf, isDone}
 use Rattle.station.specs.declared.Station.{Station}
 use Rattle.bench.specs.declared.BenchAnswer.the-variants.{Line}
 use Rattle.bench.specs.declared.BenchTurn.{BenchTurn}
-use Rattle.hearing.specs.Whole.{Ready}
-use Rattle.hearing.proofs.Rests.{Rests, rests-step, rests-next}
+use Rattle.receiver_laws.specs.Whole.{Ready}
+use Rattle.receiver_laws.proofs.Rests.{Rests, rests-step, rests-next}
 use Rattle.access.specs.Calls.{Answer, Moment, linesOf, eventsIn, hears}
 use Rattle.access.specs.Demand3.{callsEach, timesDone, Right, AllRight}
 use Rattle.access.proofs.BurstLaws.{countedBy}

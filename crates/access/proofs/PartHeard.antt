@@ -25,10 +25,10 @@ use Rattle.receiver.specs.declared.Heard.{Heard}
 use Rattle.receiver.specs.declared.Receiver.{Receiver}
 use Rattle.receiver.specs.declared.Event.{Event}
 use Rattle.receiver.specs.declared.Event.the-variants.{Nothing, Message as Gives, Repeat}
-use Rattle.hearing.specs.Whole.{Ready, frameEvents, burstEvents}
-use Rattle.hearing.proofs.Runs.{events-append, after-append}
-use Rattle.hearing.proofs.Whole.{hears-burst}
-use Rattle.hearing.proofs.Standing.{standsAt, eventAt, stands-step}
+use Rattle.receiver_laws.specs.Whole.{Ready, frameEvents, burstEvents}
+use Rattle.receiver_laws.proofs.Runs.{events-append, after-append}
+use Rattle.receiver_laws.proofs.Whole.{hears-burst}
+use Rattle.receiver_laws.proofs.Standing.{standsAt, eventAt, stands-step}
 use Rattle.access.specs.Calls.{Answer, linesOf, eventsIn}
 use Rattle.access.specs.Demand3.{SentAndHeard}
 use Rattle.access.proofs.BurstLaws.{burst-some}

@@ -16,7 +16,7 @@ use Rattle.station.specs.declared.Station.{Station}
 use Rattle.bench.specs.Benches.{drawsOk, benchOf}
 use Rattle.bench.specs.declared.BenchAnswer.the-variants.{Line}
 use Rattle.bench.specs.declared.BenchTurn.{BenchTurn}
-use Rattle.hearing.proofs.Rests.{rests-fresh}
+use Rattle.receiver_laws.proofs.Rests.{rests-fresh}
 use Rattle.access.specs.Calls.{Moment, atStart, hears, call, run, Drawn}
 use Rattle.access.specs.Demand3.{callsEach, Start, timesDone, Claim, Demand3}
 use Rattle.access.proofs.BurstLaws.{burst-most}

@@ -20,13 +20,13 @@ use Rattle.receiver.specs.Hearing.{eventsOf}
 use Rattle.receiver.specs.declared.Receiver.{Receiver}
 use Rattle.receiver.specs.declared.Event.{Event}
 use Rattle.receiver.specs.declared.Event.the-variants.{Nothing, Message as Gives, Repeat}
-use Rattle.hearing.specs.Whole.{clear, lastSix, frameEvents, burstEvents}
-use Rattle.hearing.specs.Inversion.{told}
-use Rattle.hearing.proofs.Runs.{Run, run-more}
-use Rattle.hearing.proofs.Pasts.{six-append, clean-burst}
-use Rattle.hearing.proofs.Rests.{Rests, rests-hunting, rests-fresh, rests-step, rests-next, rests-ready}
-use Rattle.hearing.proofs.Told.{tells-run}
-use Rattle.hearing.proofs.Whole.{every-burst-is-heard}
+use Rattle.receiver_laws.specs.Whole.{clear, lastSix, frameEvents, burstEvents}
+use Rattle.receiver_laws.specs.Inversion.{told}
+use Rattle.receiver_laws.proofs.Runs.{Run, run-more}
+use Rattle.receiver_laws.proofs.Pasts.{six-append, clean-burst}
+use Rattle.receiver_laws.proofs.Rests.{Rests, rests-hunting, rests-fresh, rests-step, rests-next, rests-ready}
+use Rattle.receiver_laws.proofs.Told.{tells-run}
+use Rattle.receiver_laws.proofs.Whole.{every-burst-is-heard}
 use Rattle.radio.specs.Codes.{fourBytes, commandOk}
 use Rattle.radio.specs.Answers.{messagesOf}
 use Rattle.radio.specs.declared.RadioCommand.{RadioCommand}

@@ -26,7 +26,7 @@ use Rattle.receiver.specs.Hearing.{eventsOf}
 use Rattle.receiver.specs.declared.Receiver.{Receiver}
 use Rattle.receiver.specs.declared.Event.{Event}
 use Rattle.receiver.specs.declared.Event.the-variants.{Nothing, Message as Gives, Repeat, BrokenPair, BrokenUnsupported, RefusedHalf, RefusedState}
-use Rattle.hearing.specs.Inversion.{givenBy, told}
+use Rattle.receiver_laws.specs.Inversion.{givenBy, told}
 use Rattle.record.specs.Layout.{RECORDS, HOUSES, TABLE-BYTES}
 use Rattle.record.specs.ModuleTable.{recordsOk, housesOk, tableOk, changed}
 use Rattle.record.proofs.RecordLaws.{pick-both}

@@ -8,8 +8,8 @@ use Rattle.burst.specs.Frames.{burstOf}
 use Rattle.receiver.specs.Receivers.{freshReceiver}
 use Rattle.receiver.specs.Hearing.{eventsOf}
 use Rattle.receiver.specs.declared.Receiver.{Receiver}
-use Rattle.hearing.specs.Whole.{clear}
-use Rattle.hearing.specs.Inversion.{told}
+use Rattle.receiver_laws.specs.Whole.{clear}
+use Rattle.receiver_laws.specs.Inversion.{told}
 use Rattle.radio.specs.Codes.{fourBytes, commandOk}
 use Rattle.radio.specs.Answers.{messagesOf}
 use Rattle.radio.specs.declared.RadioCommand.{RadioCommand}

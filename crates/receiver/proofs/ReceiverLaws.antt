@@ -1,51 +1,49 @@
 -- Laws of one call of the receiver.
 --
---     Taken, taken    the ways in which a half-cycle is taken, each with what holds there
---     at-below        a receiver that is not refused is at 62 at most
---     step-number     the event's number is 01's number for the call
---     stays-valid     a valid receiver stays valid, for every half-cycle
---     gives-valid     every message that it gives is a valid one
+--     Taken, taken                       the ways in which a half-cycle is taken, each with what holds there
+--     step-number                        the event's number is 01's number for the call
+--     at-most, valid-parts               what holds of a receiver that is not refused
+--     nineOk, nine-ok                    what nine bits say, judged by their numbers; one computed test over the table of meanings
+--     read-nine, read-all, last-code     a complete frame's bits are not refused
+--     lowest-first, fresh-is-valid, stays-valid, gives-valid      LowestFirst, FreshIsValid, StaysValid and GivesValid
 use mathlib.Core.Path.{_≡_, refl, sym, ap, _∙_}
-use mathlib.Core.Bool.{Bool, true, false, _&&_, and-eq-true-iff}
+use mathlib.Core.Bool.{Bool, true, false, false≢true, _&&_, not, and-eq-true-iff, and-false}
 use Prim.Native.Nat.{ℕ, _+_, _-_, _*_, _/_, _%_, _^_, _≤_, _<_}
 use native.Mathlib.Omega.{arith}
 use native.Mathlib.Decide.{decLe, ℕ-discrete}
-use borrow.Author.Tests.{leb-true, eqb-true, le-leb, lt-leb, eq-eqb, ne-eqb}
+use borrow.Author.Tests.{leb-true, eqb-true, not-true, le-leb, lt-leb, lt-ltb, eq-eqb, ne-eqb}
 use lib.Dec.{leb, eqb, lit<, lit≤}
 use lib.Pow.{field, mod-mod-pow, shr-shr}
 use Rattle.ground.specs.Choice.{pick}
-use Rattle.message.specs.Numbers.{NONE, HALF, STATE, PAIR, UNSUPPORTED}
+use Rattle.ground.specs.Refusals.{refusalNumber, judged}
+use Rattle.ground.specs.declared.Refusal.{Refusal}
+use Rattle.ground.specs.declared.Refusal.the-variants as refusal
+use Rattle.ground.proofs.Causes.{judged-map, lowest-given}
 use Rattle.message.specs.Codes.{numberOf, meaningOf, meanings}
 use Rattle.message.specs.Messages.{messageOk}
-use Rattle.message.specs.Words.{functionReading, standardOf, extendedOf}
+use Rattle.message.specs.Words.{functionReading, standardOf, extendedOf, standardAnswer, extendedAnswer}
 use Rattle.message.specs.declared.Message.{Message}
 use Rattle.message.specs.declared.Message.the-variants.{Address}
-use Rattle.message.specs.declared.Meaning.{Meaning}
-use Rattle.message.specs.declared.Meaning.the-variants.{Function as Carries, Extended as Longer, Unsupported as Unknown}
-use Rattle.message.specs.declared.Reading.{Reading}
-use Rattle.message.specs.declared.Reading.the-variants.{Whole, Extended, Unsupported}
+use Rattle.message.specs.declared.word.Reading.{Reading}
+use Rattle.message.specs.declared.word.Reading.the-variants.{Message as Says, Longer, Unsupported, Refused as NotRead}
 use Rattle.message.proofs.Tables.{every-at}
-use Rattle.message.proofs.CodeLaws.{number-below, extended-meaning}
+use Rattle.message.proofs.CodeLaws.{number-below}
 use Rattle.receiver.specs.declared.Given.{Given}
 use Rattle.receiver.specs.declared.Given.the-variants.{No, Yes}
 use Rattle.receiver.specs.declared.Receiver.{Receiver}
 use Rattle.receiver.specs.declared.Event.{Event}
-use Rattle.receiver.specs.declared.Event.the-variants.{Nothing, Message as Gives, Repeat, BrokenPair, BrokenUnsupported, RefusedHalf, RefusedState}
+use Rattle.receiver.specs.declared.Event.the-variants.{Nothing, Message as Gives, Repeat, BrokenPair, BrokenUnsupported, Refused}
 use Rattle.receiver.specs.declared.Heard.{Heard}
-use Rattle.receiver.specs.Receivers.{eventNumber, pairsOk, givenOk, receiverOk, shifted, hunting, says, huntOf, awaitOf, isRepeat, completeOf, ninthOf, pairOf, readOf, takesOf, stepOf, equalPair, unsupportedCode, stepNumber}
+use Rattle.receiver.specs.Receivers.{eventNumber, freshReceiver, pairsOk, givenOk, receiverOk, shifted, hunting, says, huntOf, awaitOf, isRepeat, completeOf, outcomeOf, pairOf, bitsAfter, readOf, takesOf, stepCauses, stepOf, equalPair, unsupportedCode, brokenNumber, LowestFirst, FreshIsValid, StaysValid, GivesValid}
 
 -- ---- the ways in which a half-cycle is taken
-
--- the bits with that of the pair which this half-cycle completes
-abbrev pub bitsAfter : Receiver → ℕ
-bitsAfter r = r .bits % 268435456 * 2 + r .past % 2
 
 pub data Taken (r : Receiver) (h : ℕ) : Heard → Type 0 where
   hunted : r .at ≤ 4 → Taken r h (huntOf (r .past) h)
   awaited : r .at ≤ 4 → Taken r h (says Nothing (record { past = shifted (r .past) h; at = r .at + 1; bits = 0; given = r .given }))
   first : 5 ≤ r .at → r .at % 2 ≡ 1 → Taken r h (says Nothing (record { past = shifted (r .past) h; at = r .at + 1; bits = r .bits; given = r .given }))
   equal : 5 ≤ r .at → r .at % 2 ≡ 0 → r .past % 2 ≡ h → Taken r h (says BrokenPair (hunting (shifted (r .past) h)))
-  ninth : r .at ≡ 22 → (r .past % 2 ≡ h → ⊥) → Taken r h (ninthOf (r .given) (standardOf (bitsAfter r)) (bitsAfter r) (shifted (r .past) h))
+  ninth : r .at ≡ 22 → (r .past % 2 ≡ h → ⊥) → Taken r h (outcomeOf r (bitsAfter r) (shifted (r .past) h) (standardOf (bitsAfter r)))
   last : r .at ≡ 62 → (r .past % 2 ≡ h → ⊥) → Taken r h (completeOf (r .given) (extendedOf (bitsAfter r)) (shifted (r .past) h))
   paired : 5 ≤ r .at → r .at % 2 ≡ 0 → (r .past % 2 ≡ h → ⊥) → (r .at ≡ 22 → ⊥) → (r .at ≡ 62 → ⊥)
       → Taken r h (says Nothing (record { past = shifted (r .past) h; at = r .at + 1; bits = bitsAfter r; given = r .given }))
@@ -86,62 +84,74 @@ module _ (r : Receiver) (h : ℕ) where
       go (no n) (yes a) = rw (ne-eqb (r .at) 0 n, le-leb (r .at) 4 a) (taken-await a)
       go (no n) (no b) = let past : 4 < r .at = omega arith in rw (ne-eqb (r .at) 0 n, lt-leb (r .at) 4 past) (taken-read past)
 
+-- ---- what nine bits say
+
+number-ok : (c : ℕ) → leb (numberOf (c % 16)) 15 ≡ true
+number-ok c = let low : c % 16 < 16 = omega arith in le-leb (numberOf (c % 16)) 15 (omega (arith, number-below (c % 16) low))
+
+abbrev tenToTwelve : ℕ → Bool
+tenToTwelve c = leb 10 c && leb c 12
+
+-- by the function bit and the code: a message is valid, only code 7 begins a longer frame, and codes 10, 11 and 12 alone are unsupported
+abbrev nineOk : Bool → ℕ → Reading → Bool
+nineOk b c (Says m) = messageOk m && not (b && tenToTwelve c)
+nineOk b c Longer = b && eqb c 7
+nineOk b c Unsupported = b && tenToTwelve c
+nineOk b c (NotRead why) = false
+
+function-ok : (house c : ℕ) → leb house 15 ≡ true → c < 16 → nineOk true c (functionReading house (meaningOf c)) ≡ true
+unfolding meaningOf meanings
+function-ok house c ok low = every-at (λ k x. nineOk true k (functionReading house x)) meanings (meaningOf 16) c (rw ok) low
+
+nine-ok : (w : ℕ) → nineOk (eqb (w % 2) 1) (w / 2 % 16) (standardOf w) ≡ true
+unfolding standardOf
+nine-ok w = go (ℕ-discrete (w % 2) 0)
+  where
+    go : Dec (w % 2 ≡ 0) → nineOk (eqb (w % 2) 1) (w / 2 % 16) (standardOf w) ≡ true
+    go (yes z) = simp (z, number-ok (w / 32), number-ok (w / 2))
+    go (no n) = let one : w % 2 ≡ 1 = omega arith in rw one (function-ok (numberOf (w / 32 % 16)) (w / 2 % 16) (number-ok (w / 32)) (omega arith))
+
 -- ---- the number of a call
 
-complete-number : (given : Given) (m : Message) (past : ℕ) → eventNumber (completeOf given m past .event) ≡ NONE
+complete-number : (given : Given) (m : Message) (past : ℕ) → eventNumber (completeOf given m past .event) ≡ 0
 unfolding completeOf
 complete-number given m past = go (isRepeat given m)
   where
-    go : (b : Bool) → eventNumber (pick b (says Repeat (hunting past)) (says (Gives m) (record { past = past; at = 1; bits = 0; given = Yes m })) .event) ≡ NONE
+    go : (b : Bool) → eventNumber (pick b (says Repeat (hunting past)) (says (Gives m) (record { past = past; at = 1; bits = 0; given = Yes m })) .event) ≡ 0
     go true = refl
     go false = refl
 
--- the number that a code's meaning makes of the ninth pair
-abbrev breakOf : Meaning → ℕ
-breakOf (Carries f) = NONE
-breakOf Longer = NONE
-breakOf Unknown = UNSUPPORTED
+outcome-number : (r : Receiver) (bits past : ℕ) (x : Reading) (b : Bool) (c : ℕ) → nineOk b c x ≡ true
+    → eventNumber (outcomeOf r bits past x .event) ≡ pick (b && tenToTwelve c) 11 0
+outcome-number r bits past (Says m) b c t =
+    let other : (b && tenToTwelve c) ≡ false = not-true (b && tenToTwelve c) (and-eq-true-iff (messageOk m) (not (b && tenToTwelve c)) .0 t .1) in
+    complete-number (r .given) m past ∙ sym (rw other)
+outcome-number r bits past Longer b c t =
+    let seven = eqb-true c 7 (and-eq-true-iff b (eqb c 7) .0 t .1) in
+    let other : tenToTwelve c ≡ false = ap tenToTwelve seven in
+    sym (rw (other, and-false b))
+outcome-number r bits past Unsupported b c t = sym (rw t)
+outcome-number r bits past (NotRead why) b c t = absurd (false≢true t)
 
-abbrev ten-to-twelve : ℕ → ℕ
-ten-to-twelve c = pick (leb 10 c && leb c 12) UNSUPPORTED NONE
-
-break-of-code : (c : ℕ) → c < 16 → breakOf (meaningOf c) ≡ ten-to-twelve c
-unfolding meaningOf meanings
-break-of-code c low = eqb-true (breakOf (meaningOf c)) (ten-to-twelve c) (every-at (λ k x. eqb (breakOf x) (ten-to-twelve k)) meanings Unknown c refl low)
-
-function-number : (given : Given) (house : ℕ) (x : Meaning) (bits past : ℕ) → eventNumber (ninthOf given (functionReading house x) bits past .event) ≡ breakOf x
-function-number given house (Carries f) bits past = complete-number given _ past
-function-number given house Longer bits past = refl
-function-number given house Unknown bits past = refl
-
-zero-of : (h : ℕ) → h ≤ 1 → (h ≡ 1 → ⊥) → h ≡ 0
-zero-of h bit d = omega arith
-
-module _ (r : Receiver) (h : ℕ) (bit : h ≤ 1) where
-  abbrev number : ℕ
-  number = pick (equalPair r h) PAIR (pick (unsupportedCode r h) UNSUPPORTED NONE)
-
+module _ (r : Receiver) (h : ℕ) where
   -- what stands for the number where the pair is complete and unequal
-  unequal : 5 ≤ r .at → r .at % 2 ≡ 0 → (r .past % 2 ≡ h → ⊥) → number ≡ pick (unsupportedCode r h) UNSUPPORTED NONE
+  unequal : 5 ≤ r .at → r .at % 2 ≡ 0 → (r .past % 2 ≡ h → ⊥) → brokenNumber r h ≡ pick (unsupportedCode r) 11 0
+  unfolding brokenNumber
   unequal a even d = simp (le-leb 5 (r .at) a, eq-eqb (r .at % 2) 0 even, ne-eqb (r .past % 2) h d)
 
-  ninth-number : r .at ≡ 22 → (r .past % 2 ≡ h → ⊥) → eventNumber (ninthOf (r .given) (standardOf (bitsAfter r)) (bitsAfter r) (shifted (r .past) h) .event) ≡ number
-  unfolding standardOf
-  ninth-number e d = go (ℕ-discrete (r .past % 2) 0) ∙ sym (unequal (omega arith) (omega arith) d)
-    where
-      go : Dec (r .past % 2 ≡ 0) → eventNumber (ninthOf (r .given) (standardOf (bitsAfter r)) (bitsAfter r) (shifted (r .past) h) .event) ≡ pick (unsupportedCode r h) UNSUPPORTED NONE
-      go (yes z) =
-          let even : bitsAfter r % 2 ≡ 0 = omega arith in
-          simp (eq-eqb (bitsAfter r % 2) 0 even, complete-number, eq-eqb (r .at) 22 e, ne-eqb (r .past % 2) 1 (λ o. omega arith))
-      go (no n) =
-          let odd : bitsAfter r % 2 ≡ 0 → ⊥ = λ z. omega arith in
-          let one : r .past % 2 ≡ 1 = omega arith in
-          let off : h ≡ 0 = omega (arith, zero-of h bit (λ e. d (one ∙ sym e))) in
-          let code : bitsAfter r / 2 % 16 ≡ r .bits % 16 = omega arith in
-          simp (ne-eqb (bitsAfter r % 2) 0 odd, function-number, code, break-of-code (r .bits % 16) (omega arith), eq-eqb (r .at) 22 e, eq-eqb (r .past % 2) 1 one, eq-eqb h 0 off)
+  ninth-number : r .at ≡ 22 → (r .past % 2 ≡ h → ⊥)
+      → eventNumber (outcomeOf r (bitsAfter r) (shifted (r .past) h) (standardOf (bitsAfter r)) .event) ≡ brokenNumber r h
+  ninth-number e d =
+      let w = bitsAfter r in
+      let bit : w % 2 ≡ r .past % 2 = omega arith in
+      let half : w / 2 ≡ r .bits % 2 ^ 28 = omega arith in
+      let code : w / 2 % 16 ≡ r .bits % 16 = ap (λ (n : ℕ). n % 16) half ∙ mod-mod-pow (r .bits) 24 4 in
+      outcome-number r w (shifted (r .past) h) (standardOf w) (eqb (w % 2) 1) (w / 2 % 16) (nine-ok w)
+      ∙ (rw (bit, code, eq-eqb (r .at) 22 e))
+      ∙ sym (unequal (omega arith) (omega arith) d)
 
-  number-taken : {o : Heard} → Taken r h o → eventNumber (o .event) ≡ number
-  unfolding huntOf
+  number-taken : {o : Heard} → Taken r h o → eventNumber (o .event) ≡ brokenNumber r h
+  unfolding huntOf brokenNumber
   number-taken (hunted a) = simp (lt-leb 5 (r .at) (omega arith), ne-eqb (r .at) 22 (λ e. omega arith))
   number-taken (awaited a) = simp (lt-leb 5 (r .at) (omega arith), ne-eqb (r .at) 22 (λ e. omega arith))
   number-taken (first a odd) = simp (le-leb 5 (r .at) a, ne-eqb (r .at % 2) 0 (λ e. omega arith), ne-eqb (r .at) 22 (λ e. omega arith))
@@ -150,16 +160,14 @@ module _ (r : Receiver) (h : ℕ) (bit : h ≤ 1) where
   number-taken (last e d) = complete-number _ _ _ ∙ sym (unequal (omega arith) (omega arith) d ∙ simp (ne-eqb (r .at) 22 (λ n. omega arith)))
   number-taken (paired a even d n n′) = sym (unequal a even d ∙ simp (ne-eqb (r .at) 22 n))
 
-pub step-number : (r : Receiver) (h : ℕ) → eventNumber (stepOf r h .event) ≡ stepNumber r h
-unfolding stepOf stepNumber
-step-number r h = go (leb h 1) (receiverOk r) (leb-true h 1)
-  where
-    go : (a b : Bool) → (a ≡ true → h ≤ 1)
-        → eventNumber (pick a (pick b (takesOf r h) (says RefusedState r)) (says RefusedHalf r) .event)
-        ≡ pick a (pick b (pick (equalPair r h) PAIR (pick (unsupportedCode r h) UNSUPPORTED NONE)) STATE) HALF
-    go true true bit = number-taken r h (bit refl) (taken r h)
-    go true false bit = refl
-    go false b bit = refl
+  pub step-number : eventNumber (stepOf r h .event) ≡ judged (stepCauses r h) (brokenNumber r h) refusalNumber
+  unfolding stepOf
+  step-number =
+      judged-map (λ (o : Heard). eventNumber (o .event)) (takesOf r h) (λ (why : Refusal). says (Refused why) r) (stepCauses r h)
+      ∙ ap (λ (n : ℕ). judged (stepCauses r h) n refusalNumber) (number-taken (taken r h))
+
+pub lowest-first : LowestFirst
+lowest-first r h = lowest-given (stepCauses r h) refl
 
 -- ---- what makes a receiver valid
 
@@ -200,8 +208,54 @@ valid-of : (past at bits : ℕ) (given : Given) → past ≤ 63 → pairsOk at b
 unfolding receiverOk
 valid-of past at bits given p q g = simp (le-leb past 63 p, q, g)
 
-pub at-below : (r : Receiver) → receiverOk r ≡ true → r .at ≤ 62
-at-below r t = at-most (r .at) (r .bits) (valid-parts r t .0)
+pub fresh-is-valid : FreshIsValid
+fresh-is-valid = valid-of 63 0 0 No (lit≤ tt) (low-pairs 0 0 (lit≤ tt)) refl
+
+-- ---- a complete frame's bits are not refused
+
+-- one more bit below: the extended code stands one place higher
+code-moves : (bits b k : ℕ) → b < 2 → k ≤ 23 → (bits % 2 ^ 28 * 2 + b) / 2 ^ (1 + k) % 32 ≡ bits / 2 ^ k % 32
+code-moves bits b k hb hk =
+    let w = bits % 2 ^ 28 * 2 + b in
+    let half : w / 2 ≡ bits % 2 ^ 28 = omega arith in
+    let e : 23 - k + 5 + k ≡ 28 = omega arith in
+    ap (λ (n : ℕ). n % 32) (sym (shr-shr w 1 k) ∙ ap (λ (n : ℕ). n / 2 ^ k) half)
+    ∙ ap (λ (n : ℕ). bits % 2 ^ n / 2 ^ k % 32) (sym e)
+    ∙ ap (λ (n : ℕ). n % 32) (field bits (23 - k + 5) k)
+    ∙ mod-mod-pow (bits / 2 ^ k) (23 - k) 5
+
+-- the twenty-ninth pair of a frame that has so many
+pub last-code : (r : Receiver) → pairsOk (r .at) (r .bits) ≡ true → r .at ≡ 62 → bitsAfter r / 2 ^ 20 % 32 ≡ 15
+last-code r ok e =
+    let further : 19 ≡ (r .at - 23) / 2 = omega arith in
+    code-moves (r .bits) (r .past % 2) 19 (omega arith) (omega arith)
+    ∙ ap (λ (k : ℕ). r .bits / 2 ^ k % 32) further
+    ∙ extended-code (r .at) (r .bits) (omega arith) ok
+
+-- j bits above the lowest k, where n more are kept above them
+part : (w n j k : ℕ) → w % 2 ^ (n + j + k) / 2 ^ k % 2 ^ j ≡ w / 2 ^ k % 2 ^ j
+part w n j k = ap (λ (x : ℕ). x % 2 ^ j) (field w (n + j) k) ∙ mod-mod-pow (w / 2 ^ k) n j
+
+pub read-nine : (w : ℕ) → standardAnswer (w % 512) ≡ standardOf w
+unfolding standardAnswer judged standardOf
+read-nine w =
+    let low : w % 512 < 2 ^ 9 = omega arith in
+    let bit : w % 512 % 2 ≡ w % 2 = omega arith in
+    let code : w % 512 / 2 % 16 ≡ w / 2 % 16 = part w 4 4 1 in
+    let house : w % 512 / 32 % 16 ≡ w / 32 % 16 = part w 0 4 5 in
+    rw (lt-ltb (w % 512) (2 ^ 9) low, bit, code, house)
+
+pub read-all : (w : ℕ) → w / 2 ^ 20 % 32 ≡ 15 → extendedAnswer (w % 536870912) ≡ Says (extendedOf w)
+unfolding extendedAnswer judged
+read-all w begun =
+    let n = w % 536870912 in
+    let low : n < 2 ^ 29 = omega arith in
+    let code : n / 2 ^ 20 % 32 ≡ 15 = part w 4 5 20 ∙ begun in
+    let house : n / 2 ^ 25 % 16 ≡ w / 2 ^ 25 % 16 = part w 0 4 25 in
+    let unit : n / 2 ^ 16 % 16 ≡ w / 2 ^ 16 % 16 = part w 9 4 16 in
+    let «data» : n / 256 % 256 ≡ w / 256 % 256 = part w 13 8 8 in
+    let command : n % 256 ≡ w % 256 = omega arith in
+    rw (lt-ltb n (2 ^ 29) low, eq-eqb (n / 2 ^ 20 % 32) 15 code, house, unit, «data», command)
 
 -- ---- the messages are valid
 
@@ -212,33 +266,26 @@ givesOk (Gives m) = messageOk m
 givesOk Repeat = true
 givesOk BrokenPair = true
 givesOk BrokenUnsupported = true
-givesOk RefusedHalf = true
-givesOk RefusedState = true
+givesOk (Refused why) = true
 
 -- so is a whole one that is read
 abbrev readsOk : Reading → Bool
-readsOk (Whole m) = messageOk m
-readsOk Extended = true
+readsOk (Says m) = messageOk m
+readsOk Longer = true
 readsOk Unsupported = true
+readsOk (NotRead why) = true
 
-number-ok : (c : ℕ) → leb (numberOf (c % 16)) 15 ≡ true
-number-ok c = let low : c % 16 < 16 = omega arith in le-leb (numberOf (c % 16)) 15 (omega (arith, number-below (c % 16) low))
-
-function-ok : (c : ℕ) (x : Meaning) → readsOk (functionReading (numberOf (c % 16)) x) ≡ true
-function-ok c (Carries f) = number-ok c
-function-ok c Longer = refl
-function-ok c Unknown = refl
+reads-ok : (b : Bool) (c : ℕ) (x : Reading) → nineOk b c x ≡ true → readsOk x ≡ true
+reads-ok b c (Says m) t = and-eq-true-iff (messageOk m) (not (b && tenToTwelve c)) .0 t .0
+reads-ok b c Longer t = refl
+reads-ok b c Unsupported t = refl
+reads-ok b c (NotRead why) t = refl
 
 standard-ok : (w : ℕ) → readsOk (standardOf w) ≡ true
-unfolding standardOf
-standard-ok w = go (eqb (w % 2) 0)
-  where
-    go : (b : Bool) → readsOk (pick b (Whole (Address (numberOf (w / 32 % 16)) (numberOf (w / 2 % 16)))) (functionReading (numberOf (w / 32 % 16)) (meaningOf (w / 2 % 16)))) ≡ true
-    go true = simp (number-ok (w / 32), number-ok (w / 2))
-    go false = function-ok (w / 32) (meaningOf (w / 2 % 16))
+standard-ok w = reads-ok (eqb (w % 2) 1) (w / 2 % 16) (standardOf w) (nine-ok w)
 
 extended-ok : (w : ℕ) → messageOk (extendedOf w) ≡ true
-extended-ok w = simp (number-ok (w / 33554432), number-ok (w / 65536))
+extended-ok w = simp (number-ok (w / 2 ^ 25), number-ok (w / 2 ^ 16))
 
 complete-gives : (given : Given) (m : Message) (past : ℕ) → messageOk m ≡ true → givesOk (completeOf given m past .event) ≡ true
 unfolding completeOf
@@ -248,10 +295,11 @@ complete-gives given m past ok = go (isRepeat given m)
     go true = refl
     go false = ok
 
-ninth-gives : (given : Given) (x : Reading) (bits past : ℕ) → readsOk x ≡ true → givesOk (ninthOf given x bits past .event) ≡ true
-ninth-gives given (Whole m) bits past ok = complete-gives given m past ok
-ninth-gives given Extended bits past ok = refl
-ninth-gives given Unsupported bits past ok = refl
+outcome-gives : (r : Receiver) (bits past : ℕ) (x : Reading) → readsOk x ≡ true → givesOk (outcomeOf r bits past x .event) ≡ true
+outcome-gives r bits past (Says m) ok = complete-gives (r .given) m past ok
+outcome-gives r bits past Longer ok = refl
+outcome-gives r bits past Unsupported ok = refl
+outcome-gives r bits past (NotRead why) ok = refl
 
 module _ (r : Receiver) (h : ℕ) where
   gives-taken : {o : Heard} → Taken r h o → givesOk (o .event) ≡ true
@@ -260,22 +308,21 @@ module _ (r : Receiver) (h : ℕ) where
   gives-taken (awaited a) = refl
   gives-taken (first a odd) = refl
   gives-taken (equal a even same) = refl
-  gives-taken (ninth e d) = ninth-gives (r .given) (standardOf (bitsAfter r)) (bitsAfter r) (shifted (r .past) h) (standard-ok (bitsAfter r))
+  gives-taken (ninth e d) = outcome-gives r (bitsAfter r) (shifted (r .past) h) (standardOf (bitsAfter r)) (standard-ok (bitsAfter r))
   gives-taken (last e d) = complete-gives _ _ _ (extended-ok (bitsAfter r))
   gives-taken (paired a even d n n′) = refl
 
   step-gives : givesOk (stepOf r h .event) ≡ true
-  unfolding stepOf
+  unfolding stepOf judged
   step-gives = go (leb h 1) (receiverOk r)
     where
-      go : (a b : Bool) → givesOk (pick a (pick b (takesOf r h) (says RefusedState r)) (says RefusedHalf r) .event) ≡ true
+      go : (a b : Bool) → givesOk (pick a (pick b (takesOf r h) (says (Refused refusal.State) r)) (says (Refused refusal.Half) r) .event) ≡ true
       go true true = gives-taken (taken r h)
       go true false = refl
       go false b = refl
 
-  -- every message that a receiver gives is a valid one
-  pub gives-valid : (m : Message) → stepOf r h .event ≡ Gives m → messageOk m ≡ true
-  gives-valid m e = ap givesOk (sym e) ∙ step-gives
+pub gives-valid : GivesValid
+gives-valid r h m e = ap givesOk (sym e) ∙ step-gives r h
 
 -- ---- a valid receiver stays valid
 
@@ -295,43 +342,27 @@ hunt-stays past h bit = go (eqb past 7 && eqb h 0)
     go true = valid-of (shifted past h) 5 0 No (omega arith) (low-pairs 5 0 (lit≤ tt)) refl
     go false = valid-of (shifted past h) 0 0 No (omega arith) (low-pairs 0 0 (lit≤ tt)) refl
 
-longer-of : (house : ℕ) (x : Meaning) → functionReading house x ≡ Extended → x ≡ Longer
-longer-of house (Carries f) e = absurd (let z : _≡_ {A = ℕ} 0 1 = cc in omega arith)
-longer-of house Longer e = refl
-longer-of house Unknown e = absurd (let z : _≡_ {A = ℕ} 0 1 = cc in omega arith)
-
 -- only code 7 with function bit 1 begins an extended message
-begun-code : (w : ℕ) → standardOf w ≡ Extended → w % 32 ≡ 15
-unfolding standardOf
-begun-code w e = go (ℕ-discrete (w % 2) 0)
-  where
-    go : Dec (w % 2 ≡ 0) → w % 32 ≡ 15
-    go (yes z) =
-        let whole : Whole (Address (numberOf (w / 32 % 16)) (numberOf (w / 2 % 16))) ≡ Extended = rw (eq-eqb (w % 2) 0 z) at e in
-        absurd (let z : _≡_ {A = ℕ} 0 1 = cc in omega arith)
-    go (no n) =
-        let begun : functionReading (numberOf (w / 32 % 16)) (meaningOf (w / 2 % 16)) ≡ Extended = rw (ne-eqb (w % 2) 0 n) at e in
-        let seven : w / 2 % 16 ≡ 7 = extended-meaning (w / 2 % 16) (omega arith) (longer-of (numberOf (w / 32 % 16)) (meaningOf (w / 2 % 16)) begun) in
-        omega arith
+begun-code : (w : ℕ) → standardOf w ≡ Longer → w % 32 ≡ 15
+begun-code w e =
+    let t : (eqb (w % 2) 1 && eqb (w / 2 % 16) 7) ≡ true = ap (nineOk (eqb (w % 2) 1) (w / 2 % 16)) (sym e) ∙ nine-ok w in
+    let p = and-eq-true-iff (eqb (w % 2) 1) (eqb (w / 2 % 16) 7) .0 t in
+    let bit : w % 2 ≡ 1 = eqb-true (w % 2) 1 (p .0) in
+    let code : w / 2 % 16 ≡ 7 = eqb-true (w / 2 % 16) 7 (p .1) in
+    omega arith
 
-ninth-stays : (given : Given) (x : Reading) (bits past : ℕ) → past ≤ 63 → givenOk given ≡ true → readsOk x ≡ true → (x ≡ Extended → bits % 32 ≡ 15)
-    → receiverOk (ninthOf given x bits past .next) ≡ true
-ninth-stays given (Whole m) bits past p g ok code = complete-stays given m past p ok
-ninth-stays given Extended bits past p g ok code =
-    let e = code refl in
-    valid-of past 23 bits given p (high-pairs 23 bits (lit< tt) (lit≤ tt) (omega arith)) g
-ninth-stays given Unsupported bits past p g ok code = valid-of past 0 0 No p (low-pairs 0 0 (lit≤ tt)) refl
+outcome-stays : (r : Receiver) (bits past : ℕ) (x : Reading) → receiverOk r ≡ true → past ≤ 63 → readsOk x ≡ true
+    → (x ≡ Longer → pairsOk (r .at + 1) bits ≡ true) → receiverOk (outcomeOf r bits past x .next) ≡ true
+outcome-stays r bits past (Says m) ok p read more = complete-stays (r .given) m past p read
+outcome-stays r bits past Longer ok p read more = valid-of past (r .at + 1) bits (r .given) p (more refl) (valid-parts r ok .1)
+outcome-stays r bits past Unsupported ok p read more = valid-of past 0 0 No p (low-pairs 0 0 (lit≤ tt)) refl
+outcome-stays r bits past (NotRead why) ok p read more = ok
 
--- one more bit below: the extended code stands one place higher
-code-moves : (bits b k : ℕ) → b < 2 → k ≤ 23 → (bits % 268435456 * 2 + b) / 2 ^ (1 + k) % 32 ≡ bits / 2 ^ k % 32
-code-moves bits b k hb hk =
-    let w = bits % 268435456 * 2 + b in
-    let half : w / 2 ≡ bits % 268435456 = omega arith in
-    let e : 23 - k + 5 + k ≡ 28 = omega arith in
-    ap (λ (n : ℕ). n % 32) (sym (shr-shr w 1 k) ∙ ap (λ (n : ℕ). n / 2 ^ k) half)
-    ∙ ap (λ (n : ℕ). bits % 2 ^ n / 2 ^ k % 32) (sym e)
-    ∙ ap (λ (n : ℕ). n % 32) (field bits (23 - k + 5) k)
-    ∙ mod-mod-pow (bits / 2 ^ k) (23 - k) 5
+-- the tenth pair of an extended frame
+tenth-pairs : (at bits : ℕ) → at ≡ 22 → bits % 32 ≡ 15 → pairsOk (at + 1) bits ≡ true
+tenth-pairs at bits e code =
+    let next : at + 1 ≡ 23 = omega arith in
+    ap (λ (n : ℕ). pairsOk n bits) next ∙ high-pairs 23 bits (lit< tt) (lit≤ tt) (omega arith)
 
 module _ (r : Receiver) (h : ℕ) (bit : h ≤ 1) (ok : receiverOk r ≡ true) where
   pairs : pairsOk (r .at) (r .bits) ≡ true
@@ -344,7 +375,7 @@ module _ (r : Receiver) (h : ℕ) (bit : h ≤ 1) (ok : receiverOk r ≡ true) w
   kept = omega arith
 
   below : r .at ≤ 62
-  below = at-below r ok
+  below = at-most (r .at) (r .bits) pairs
 
   first-pairs : r .at % 2 ≡ 1 → Dec (r .at ≤ 22) → pairsOk (r .at + 1) (r .bits) ≡ true
   first-pairs odd (yes low) = low-pairs (r .at + 1) (r .bits) (omega arith)
@@ -370,16 +401,16 @@ module _ (r : Receiver) (h : ℕ) (bit : h ≤ 1) (ok : receiverOk r ≡ true) w
   stays-taken (first a odd) = valid-of (shifted (r .past) h) (r .at + 1) (r .bits) (r .given) kept (first-pairs odd (decLe (r .at) 22)) given-ok
   stays-taken (equal a even same) = valid-of (shifted (r .past) h) 0 0 No kept (low-pairs 0 0 (lit≤ tt)) refl
   stays-taken (ninth e d) =
-      ninth-stays (r .given) (standardOf (bitsAfter r)) (bitsAfter r) (shifted (r .past) h) kept given-ok (standard-ok (bitsAfter r)) (begun-code (bitsAfter r))
+      outcome-stays r (bitsAfter r) (shifted (r .past) h) (standardOf (bitsAfter r)) ok kept (standard-ok (bitsAfter r))
+      (λ longer. tenth-pairs (r .at) (bitsAfter r) e (begun-code (bitsAfter r) longer))
   stays-taken (last e d) = complete-stays (r .given) (extendedOf (bitsAfter r)) (shifted (r .past) h) kept (extended-ok (bitsAfter r))
   stays-taken (paired a even d n n′) =
       valid-of (shifted (r .past) h) (r .at + 1) (bitsAfter r) (r .given) kept (second-pairs even n n′ (decLe (r .at) 22)) given-ok
 
--- a valid receiver stays valid, for every half-cycle
-pub stays-valid : (r : Receiver) (h : ℕ) → receiverOk r ≡ true → receiverOk (stepOf r h .next) ≡ true
-unfolding stepOf
+pub stays-valid : StaysValid
+unfolding stepOf judged
 stays-valid r h ok = go (leb h 1) (leb-true h 1)
   where
-    go : (a : Bool) → (a ≡ true → h ≤ 1) → receiverOk (pick a (pick (receiverOk r) (takesOf r h) (says RefusedState r)) (says RefusedHalf r) .next) ≡ true
+    go : (a : Bool) → (a ≡ true → h ≤ 1) → receiverOk (pick a (pick (receiverOk r) (takesOf r h) (says (Refused refusal.State) r)) (says (Refused refusal.Half) r) .next) ≡ true
     go true bit = rw ok (stays-taken r h (bit refl) ok (taken r h))
     go false bit = ok

@@ -1,30 +1,32 @@
 -- The receiver (01, 'The receiver', 'Numbers given back'): what each half-cycle says, and where the receiver then stands.
 use Prim.Native.Nat.{ℕ, _+_, _-_, _*_, _/_, _%_, _^_}
+use mathlib.Core.Path.{_≡_}
 use mathlib.Core.Bool.{Bool, true, false, _&&_, _||_}
+use mathlib.Core.List.{List, [], _∷_}
 use lib.Dec.{eqb, leb}
 use Rattle.ground.specs.Choice.{pick}
-use Rattle.message.specs.Numbers.{NONE, HALF, STATE, PAIR, UNSUPPORTED}
-use Rattle.message.specs.Messages.{messageOk}
-use Rattle.message.specs.Words.{wordOf, bitCount, standardOf, extendedOf}
+use Rattle.ground.specs.Refusals.{refusalNumber, Cause, unless, judged, numberGiven, lowest}
+use Rattle.ground.specs.declared.Refusal.the-variants as refusal
+use Rattle.message.specs.Messages.{messageOk, sameMessage}
+use Rattle.message.specs.Words.{standardOf, extendedOf}
 use Rattle.message.specs.declared.Message.{Message}
-use Rattle.message.specs.declared.Reading.{Reading}
-use Rattle.message.specs.declared.Reading.the-variants.{Whole, Extended, Unsupported}
+use Rattle.message.specs.declared.word.Reading.{Reading}
+use Rattle.message.specs.declared.word.Reading.the-variants.{Message as Says, Longer, Unsupported, Refused as NotRead}
 use Rattle.receiver.specs.declared.Given.{Given}
 use Rattle.receiver.specs.declared.Given.the-variants.{No, Yes}
 use Rattle.receiver.specs.declared.Receiver.{Receiver}
 use Rattle.receiver.specs.declared.Event.{Event}
-use Rattle.receiver.specs.declared.Event.the-variants.{Nothing, Message as Gives, Repeat, BrokenPair, BrokenUnsupported, RefusedHalf, RefusedState}
+use Rattle.receiver.specs.declared.Event.the-variants.{Nothing, Message as Gives, Repeat, BrokenPair, BrokenUnsupported, Refused}
 use Rattle.receiver.specs.declared.Heard.{Heard}
 
--- 01's number for each event: "10, 11 .. receiver events, not refusals"
+-- 01's number for each event: "10, 11 .. receiver events, not refusals", and 0 for all else that is not refused
 abbrev pub eventNumber : Event → ℕ
-eventNumber Nothing = NONE
-eventNumber (Gives m) = NONE
-eventNumber Repeat = NONE
-eventNumber BrokenPair = PAIR
-eventNumber BrokenUnsupported = UNSUPPORTED
-eventNumber RefusedHalf = HALF
-eventNumber RefusedState = STATE
+eventNumber Nothing = 0
+eventNumber (Gives m) = 0
+eventNumber Repeat = 0
+eventNumber BrokenPair = 10
+eventNumber BrokenUnsupported = 11
+eventNumber (Refused why) = refusalNumber why
 
 -- a receiver that "is hunting and has received no half-cycle"
 abbrev pub freshReceiver : Receiver
@@ -70,10 +72,10 @@ awaitOf r h =
     (says Nothing (record { past = shifted (r .past) h; at = r .at + 1; bits = 0; given = r .given }))
     (huntOf (r .past) h)
 
--- "equal to the one just given": the same bits in as many pairs
+-- "equal to the one just given"
 abbrev pub isRepeat : Given → Message → Bool
 isRepeat No m = false
-isRepeat (Yes g) m = eqb (bitCount g) (bitCount m) && eqb (wordOf g) (wordOf m)
+isRepeat (Yes g) m = sameMessage g m
 
 -- "A complete frame gives MESSAGE", and four more half-cycles are awaited; "equal to the one just given, it gives REPEAT and hunting follows"
 unfoldable pub completeOf : Given → Message → ℕ → Heard
@@ -81,18 +83,25 @@ completeOf given m past =
     pick (isRepeat given m) (says Repeat (hunting past))
     (says (Gives m) (record { past = past; at = 1; bits = 0; given = Yes m }))
 
--- the ninth pair: a whole message, an extended one whose further pairs follow, or "code 10, 11 or 12 with function bit 1"
-abbrev pub ninthOf : Given → Reading → ℕ → ℕ → Heard
-ninthOf given (Whole m) bits past = completeOf given m past
-ninthOf given Extended bits past = says Nothing (record { past = past; at = 23; bits = bits; given = given })
-ninthOf given Unsupported bits past = says BrokenUnsupported (hunting past)
+-- what the bits say when a pair is complete: of nine pairs a message, "code 10, 11 or 12 with function bit 1" or that a longer frame has
+-- begun, of twenty-nine an extended message; otherwise that pairs are to follow
+abbrev pub readingOf : ℕ → ℕ → Reading
+readingOf at bits = pick (eqb at 22) (standardOf bits) (pick (eqb at 62) (Says (extendedOf bits)) Longer)
+
+-- what becomes of the receiver by it; no bits that it has read are refused
+abbrev pub outcomeOf : Receiver → ℕ → ℕ → Reading → Heard
+outcomeOf r bits past (Says m) = completeOf (r .given) m past
+outcomeOf r bits past Longer = says Nothing (record { past = past; at = r .at + 1; bits = bits; given = r .given })
+outcomeOf r bits past Unsupported = says BrokenUnsupported (hunting past)
+outcomeOf r bits past (NotRead why) = says (Refused why) r
 
 -- a pair of different half-cycles is complete, and with it perhaps the frame
 unfoldable pub pairOf : Receiver → ℕ → ℕ → Heard
-pairOf r bits past =
-    pick (eqb (r .at) 22) (ninthOf (r .given) (standardOf bits) bits past)
-    (pick (eqb (r .at) 62) (completeOf (r .given) (extendedOf bits) past)
-    (says Nothing (record { past = past; at = r .at + 1; bits = bits; given = r .given })))
+pairOf r bits past = outcomeOf r bits past (readingOf (r .at) bits)
+
+-- the bits with that of the pair which a half-cycle completes: the pair's first half-cycle
+abbrev pub bitsAfter : Receiver → ℕ
+bitsAfter r = r .bits % 2 ^ 28 * 2 + r .past % 2
 
 -- "It then reads pairs. An equal pair gives BROKEN 10 at its second half-cycle, and hunting resumes."
 unfoldable pub readOf : Receiver → ℕ → Heard
@@ -100,29 +109,47 @@ readOf r h =
     pick (eqb (r .at % 2) 1)
     (says Nothing (record { past = shifted (r .past) h; at = r .at + 1; bits = r .bits; given = r .given }))
     (pick (eqb (r .past % 2) h) (says BrokenPair (hunting (shifted (r .past) h)))
-    (pairOf r (r .bits % 268435456 * 2 + r .past % 2) (shifted (r .past) h)))
+    (pairOf r (bitsAfter r) (shifted (r .past) h)))
 
 -- one half-cycle of 0 or 1 in a state that is not refused
 unfoldable pub takesOf : Receiver → ℕ → Heard
 takesOf r h = pick (eqb (r .at) 0) (huntOf (r .past) h) (pick (leb (r .at) 4) (awaitOf r h) (readOf r h))
 
--- one call: "the lowest number that applies", the receiver then as it was
-unfoldable pub stepOf : Receiver → ℕ → Heard
-stepOf r h = pick (leb h 1) (pick (receiverOk r) (takesOf r h) (says RefusedState r)) (says RefusedHalf r)
+-- ---- one call
 
--- ---- the number of a call
+-- 5 HALF and 6 STATE
+abbrev pub stepCauses : Receiver → ℕ → List Cause
+stepCauses r h = unless (leb h 1) refusal.Half ∷ unless (receiverOk r) refusal.State ∷ []
+
+-- a refusal "changes nothing lent or handed in"
+unfoldable pub stepOf : Receiver → ℕ → Heard
+stepOf r h = judged (stepCauses r h) (takesOf r h) (λ why. says (Refused why) r)
 
 -- "An equal pair": the half-cycle is a pair's second, and is what the first was
 abbrev pub equalPair : Receiver → ℕ → Bool
 equalPair r h = leb 5 (r .at) && (eqb (r .at % 2) 0 && eqb (r .past % 2) h)
 
--- "A ninth pair that completes code 10, 11 or 12 with function bit 1": 1 and now 0, after the four bits of the code
-abbrev pub unsupportedCode : Receiver → ℕ → Bool
-unsupportedCode r h = eqb (r .at) 22 && ((eqb (r .past % 2) 1 && eqb h 0) && (leb 10 (r .bits % 16) && leb (r .bits % 16) 12))
+-- "A ninth pair that completes code 10, 11 or 12 with function bit 1": that pair's bit is 1, after the four bits of the code
+abbrev pub unsupportedCode : Receiver → Bool
+unsupportedCode r = eqb (r .at) 22 && (eqb (r .past % 2) 1 && (leb 10 (r .bits % 16) && leb (r .bits % 16) 12))
 
--- 01's number: 5 HALF, 6 STATE, then the events 10 PAIR and 11 UNSUPPORTED, and 0 for all else
-unfoldable pub stepNumber : Receiver → ℕ → ℕ
-stepNumber r h =
-    pick (leb h 1)
-    (pick (receiverOk r) (pick (equalPair r h) PAIR (pick (unsupportedCode r h) UNSUPPORTED NONE)) STATE)
-    HALF
+-- BROKEN 10, BROKEN 11, and 0 for all else
+unfoldable pub brokenNumber : Receiver → ℕ → ℕ
+brokenNumber r h = pick (equalPair r h) 10 (pick (unsupportedCode r) 11 0)
+
+-- ---- what holds of every call: proofs/ReceiverLaws.antt
+
+-- "Within one routine the lowest number that applies is given."
+abbrev pub LowestFirst : Type 0
+LowestFirst = (r : Receiver) (h : ℕ) → lowest (stepCauses r h) ≡ numberGiven (stepCauses r h)
+
+-- a receiver that is not refused stays so, whatever half-cycle comes; a fresh one is not refused
+abbrev pub FreshIsValid : Type 0
+FreshIsValid = receiverOk freshReceiver ≡ true
+
+abbrev pub StaysValid : Type 0
+StaysValid = (r : Receiver) (h : ℕ) → receiverOk r ≡ true → receiverOk (stepOf r h .next) ≡ true
+
+-- every message given has house and unit 0 to 15
+abbrev pub GivesValid : Type 0
+GivesValid = (r : Receiver) (h : ℕ) (m : Message) → stepOf r h .event ≡ Gives m → messageOk m ≡ true

@@ -1,18 +1,18 @@
 // The receiver: reads the mains back, one call per half-cycle.
+use ground::Refusal;
 use message::Message;
-use message::Reading;
-use message::valid;
-use message::word::bit_count;
+use message::same;
+use message::word::Reading;
 use message::word::read_extended;
 use message::word::read_standard;
-use message::word::word_of;
 ghost use mathlib.Core.Path.{_≡_};
-ghost use Prim.Native.Nat.{_≤_};
-ghost use lib.Dec.{eqb, leb};
+ghost use mathlib.Core.Bool.{true};
+ghost use Prim.Native.Nat.{_≤_, _/_, _%_, _^_};
+ghost use lib.Dec.{leb};
 ghost use Rattle.ground.specs.Choice.{pick};
-ghost use Rattle.message.specs.Words.{standardOf, extendedOf};
-ghost use Rattle.message.specs.declared.Reading.the-variants.{Whole, Extended};
-ghost use Rattle.receiver.specs.Receivers.{eventNumber, freshReceiver, pairsOk, givenOk, receiverOk, shifted, hunting, says, huntOf, awaitOf, isRepeat, completeOf, pairOf, readOf, takesOf, stepOf, stepNumber};
+ghost use Rattle.ground.specs.Refusals.{refusalNumber, judged};
+ghost use Rattle.receiver.specs.Receivers.{eventNumber, freshReceiver, pairsOk, givenOk, receiverOk, stepCauses, stepOf, brokenNumber};
+ghost use Rattle.receiver.specs.Receivers.{shifted, hunting, says, huntOf, awaitOf, isRepeat, completeOf, readingOf, pairOf, readOf, takesOf};
 
 // The message given with the frame before, if it is its repeat that may come next.
 pub enum Given {
@@ -40,10 +40,9 @@ pub enum Event {
     BrokenPair,
     // A code that is no function and no extended code 1.
     BrokenUnsupported,
-    // The half-cycle is not 0 or 1.
-    RefusedHalf,
-    // A kept half-cycle is not 0 or 1, there are more pairs than the frame has, or a house or unit is above 15.
-    RefusedState,
+    // Half: the half-cycle is not 0 or 1. State: a kept half-cycle is not 0 or 1, there are more pairs than the frame has, or a house or
+    // unit is above 15.
+    Refused(Refusal),
 }
 
 pub struct Heard {
@@ -61,21 +60,24 @@ pub fn fresh() -> Receiver
 // One half-cycle: what it says, and the receiver for the next. A half-cycle that is not 0 or 1 and a receiver in a state that is
 // refused leave the receiver as it was.
 pub fn step(r: Receiver, half: u8) -> Heard
-    ensures { λ o. ⌜ o ≡ stepOf r half ⌝ }
-    ensures { λ o. ⌜ eventNumber (o .event) ≡ stepNumber r half ⌝ }
+    ensures answer { λ o. ⌜ o ≡ stepOf r half ⌝ }
+    ensures number { λ o. ⌜ eventNumber (o .event) ≡ judged (stepCauses r half) (brokenNumber r half) refusalNumber ⌝ }
 {
     if half > 1 {
-        return saying(Event::RefusedHalf, r);
+        return saying(Event::Refused(Refusal::Half), r);
     }
-    if !acceptable(r) {
-        return saying(Event::RefusedState, r);
+    if !valid(r) {
+        return saying(Event::Refused(Refusal::State), r);
     }
     takes(r, half)
 }
 
 // One half-cycle for the caller's own receiver, which is updated in place: the event that `step` gives.
 pub fn receive(r: &mut Receiver, half: u8) -> Event
-    ensures { λ e. ⌜ (e ≡ stepOf (now (r .entry)) half .event) × (now (r .exit) ≡ stepOf (now (r .entry)) half .next) ⌝ }
+    ensures { λ e.
+        ⌜ (e ≡ stepOf (now (r .entry)) half .event)
+        × (eventNumber e ≡ judged (stepCauses (now (r .entry)) half) (brokenNumber (now (r .entry)) half) refusalNumber)
+        × (now (r .exit) ≡ stepOf (now (r .entry)) half .next) ⌝ }
 {
     let heard = step(*r, half);
     *r = heard.next;
@@ -122,12 +124,12 @@ fn given_valid(given: Given) -> bool
 {
     match given {
         Given::No => true,
-        Given::Yes(m) => valid(m),
+        Given::Yes(m) => message::valid(m),
     }
 }
 
 // Whether a receiver is in none of the states that are refused.
-fn acceptable(r: Receiver) -> bool
+pub fn valid(r: Receiver) -> bool
     ensures { λ b. ⌜ b ≡ receiverOk r ⌝ }
 {
     if r.past > 63 {
@@ -177,7 +179,7 @@ fn awaited(at: u8) -> u8
 
 // Awaiting the start of a second frame: the first half-cycle that differs is hunted with.
 fn awaits(r: Receiver, half: u8) -> Heard
-    requires { ⌜ (half ≤ 1) × (r .at ≤ 62) ⌝ }
+    requires { ⌜ (half ≤ 1) × (r .at ≤ 4) ⌝ }
     ensures { λ o. ⌜ o ≡ awaitOf r half ⌝ }
 {
     if half != awaited(r.at) {
@@ -201,7 +203,7 @@ fn is_repeat(given: Given, m: Message) -> bool
 {
     match given {
         Given::No => false,
-        Given::Yes(g) => (bit_count(g) == bit_count(m)) & (word_of(g) == word_of(m)),
+        Given::Yes(g) => same(g, m),
     }
 }
 
@@ -223,29 +225,30 @@ fn complete(given: Given, m: Message, past: u8) -> Heard
     )
 }
 
-// What the bits say after the pair that this half-cycle completes: a whole message after the ninth pair or the twenty-ninth, and
-// otherwise that pairs are to follow.
+// What the bits say after the pair that this half-cycle completes. Neither reading refuses: no more bits are handed on than it takes,
+// and a frame of twenty-nine pairs began as an extended one.
 fn reading(at: u8, bits: u32) -> Reading
-    ensures { λ x. ⌜ x ≡ pick (eqb at 22) (standardOf bits) (pick (eqb at 62) (Whole (extendedOf bits)) Extended) ⌝ }
+    requires { ⌜ (at ≡ 62 → bits / 2 ^ 20 % 32 ≡ 15) ⌝ }
+    ensures { λ x. ⌜ x ≡ readingOf at bits ⌝ }
 {
     if at == 22 {
-        return read_standard(bits);
+        return read_standard(bits % 512);
     }
     if at == 62 {
-        return Reading::Whole(read_extended(bits));
+        return read_extended(bits % 536870912);
     }
-    Reading::Extended
+    Reading::Longer
 }
 
 // A pair of different half-cycles is complete.
 fn pair(r: Receiver, bits: u32, past: u8) -> Heard
-    requires { ⌜ r .at ≤ 62 ⌝ }
+    requires { ⌜ (r .at ≤ 62) × (r .at ≡ 62 → bits / 2 ^ 20 % 32 ≡ 15) ⌝ }
     ensures { λ o. ⌜ o ≡ pairOf r bits past ⌝ }
 {
     let given = r.given;
     match reading(r.at, bits) {
-        Reading::Whole(m) => complete(given, m, past),
-        Reading::Extended => saying(
+        Reading::Message(m) => complete(given, m, past),
+        Reading::Longer => saying(
             Event::Nothing,
             Receiver {
                 past: past,
@@ -255,12 +258,13 @@ fn pair(r: Receiver, bits: u32, past: u8) -> Heard
             },
         ),
         Reading::Unsupported => saying(Event::BrokenUnsupported, hunts(past)),
+        Reading::Refused(why) => saying(Event::Refused(why), r),
     }
 }
 
 // Reading pairs: the first half-cycle of a pair is kept, the second is compared with it.
 fn reads(r: Receiver, half: u8) -> Heard
-    requires { ⌜ (half ≤ 1) × (r .at ≤ 62) ⌝ }
+    requires { ⌜ (half ≤ 1) × (pairsOk (r .at) (r .bits) ≡ true) ⌝ }
     ensures { λ o. ⌜ o ≡ readOf r half ⌝ }
 {
     let past = shift(r.past, half);
@@ -285,7 +289,7 @@ fn reads(r: Receiver, half: u8) -> Heard
 
 // A half-cycle of 0 or 1, in a state that is not refused.
 fn takes(r: Receiver, half: u8) -> Heard
-    requires { ⌜ (half ≤ 1) × (r .at ≤ 62) ⌝ }
+    requires { ⌜ (half ≤ 1) × (pairsOk (r .at) (r .bits) ≡ true) ⌝ }
     ensures { λ o. ⌜ o ≡ takesOf r half ⌝ }
 {
     if r.at == 0 {

@@ -12,7 +12,7 @@ use Rattle.receiver.specs.Receivers.{stepOf}
 use Rattle.receiver.specs.declared.Receiver.{Receiver}
 use Rattle.receiver.specs.declared.Event.{Event}
 use Rattle.receiver.specs.declared.Event.the-variants.{Nothing, Message as Gives, Repeat, BrokenPair, BrokenUnsupported, RefusedHalf as NoHalf, RefusedState as NoState}
-use Rattle.hearing.specs.Inversion.{givenBy}
+use Rattle.receiver_laws.specs.Inversion.{givenBy}
 use Rattle.record.specs.Layout.{RECORDS, TABLE-BYTES}
 use Rattle.record.specs.ModuleTable.{tableOk, changed}
 use Rattle.apply.specs.Applied.{answerOf, numberFor, tableAfter}

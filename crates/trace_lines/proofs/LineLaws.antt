@@ -17,7 +17,7 @@ use borrow.Author.Tests.{lt-ltb, le-ltb, leb-true, ne-eqb, not-true}
 use lib.Dec.{eqb, leb}
 use lib.ListN.{length, replicate, length-append}
 use Rattle.ground.specs.Text.{bytesOf, bytesFrom}
-use Rattle.message.specs.Codes.{functionNames, functionCode, nameAt, padded, paddedName}
+use Rattle.message.specs.Codes.{functionNames, functionCode, nameAt, padded}
 use Rattle.message.specs.declared.Message.{Message}
 use Rattle.message.specs.declared.Message.the-variants.{Address, Function as Command, Extended}
 use Rattle.message.proofs.Tables.{everyFrom, every-at}
@@ -108,8 +108,8 @@ names-have-no-zero : everyFrom (λ k t. letters t) 0 functionNames ≡ true
 unfolding functionNames bytesOf bytesFrom
 names-have-no-zero = refl
 
-pub trimmed-name : (c : ℕ) → c < 16 → trimmed (paddedName c) ≡ nameAt c
-unfolding paddedName padded nameAt functionNames
+pub trimmed-name : (c : ℕ) → c < 16 → trimmed (padded (nameAt c)) ≡ nameAt c
+unfolding padded nameAt functionNames
 trimmed-name c h = trim-filled (nameAt c) 0 (16 - length (nameAt c)) (every-at (λ k t. letters t) functionNames [] c names-have-no-zero h)
 
 -- ---- the length of a line

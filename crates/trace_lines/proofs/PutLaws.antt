@@ -1,21 +1,17 @@
--- Laws of a text that is put into a buffer.
+-- Laws of a text that is put into a buffer; that a text in two parts is put part by part stands in ground.
 --
---     sets-append     a text in two parts is put part by part
 --     sets-set        what is stored past a text may be stored first
 --     put-none, put-then    no text; one text and then another
 --     put-as          an equal text
 use mathlib.Core.Path.{_≡_, refl, sym, ap, subst, _∙_}
 use mathlib.Core.List.{List, [], _∷_, _++_}
 use Prim.Native.Nat.{ℕ, suc, _+_, _≤_}
-use native.Mathlib.Nat.{add-zero, add-suc, suc-add, add-assoc}
+use native.Mathlib.Nat.{add-zero, add-assoc}
 use native.Mathlib.Omega.{arith}
 use lib.ListN.{length, set, length-append}
 use lib.Seq.{sets, set-comm}
+use Rattle.ground.proofs.Lists.{sets-append}
 use Rattle.trace_lines.specs.Lines.{Put}
-
-pub sets-append : (l : List ℕ) (i : ℕ) (s t : List ℕ) → sets l i (s ++ t) ≡ sets (sets l i s) (i + length s) t
-sets-append l i [] t = ap (λ (k : ℕ). sets l k t) (sym (add-zero i))
-sets-append l i (x ∷ s) t = sets-append (set l i x) (suc i) s t ∙ ap (λ (k : ℕ). sets (sets (set l i x) (suc i) s) k t) (suc-add i (length s) ∙ sym (add-suc i (length s)))
 
 pub sets-set : (l : List ℕ) (i : ℕ) (s : List ℕ) (j x : ℕ) → i + length s ≤ j → set (sets l i s) j x ≡ sets (set l j x) i s
 sets-set l i [] j x h = refl

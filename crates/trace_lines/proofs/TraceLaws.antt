@@ -27,7 +27,7 @@ use Rattle.trace_lines.specs.Trace.{isHalf, isSkipped, printed, halfAfte
 use Rattle.trace_lines.specs.declared.Line.the-variants.{BadByte}
 use Rattle.trace_lines.specs.declared.Progress.{Progress}
 use Rattle.trace_lines.specs.declared.Traced.{Traced}
-use Rattle.trace_lines.proofs.PutLaws.{sets-append}
+use Rattle.ground.proofs.Lists.{sets-append}
 
 -- ---- one byte
 

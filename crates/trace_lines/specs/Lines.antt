@@ -10,8 +10,9 @@ use Rattle.ground.specs.Text.{bytesOf}
 use Rattle.message.specs.Codes.{functionCode, nameAt}
 use Rattle.message.specs.declared.Message.{Message}
 use Rattle.message.specs.declared.Message.the-variants.{Address, Function as Command, Extended}
+use Rattle.receiver.specs.Receivers.{eventNumber}
 use Rattle.receiver.specs.declared.Event.{Event}
-use Rattle.receiver.specs.declared.Event.the-variants.{Nothing, Message as Gives, Repeat, BrokenPair, BrokenUnsupported, RefusedHalf, RefusedState}
+use Rattle.receiver.specs.declared.Event.the-variants.{Nothing, Message as Gives, Repeat, BrokenPair, BrokenUnsupported, Refused}
 use Rattle.trace_lines.specs.declared.Line.{Line}
 use Rattle.trace_lines.specs.declared.Line.the-variants.{Message as Says, Repeat as Repeated, BrokenPair as Unequal, BrokenUnsupported as Unread, BadByte}
 
@@ -55,8 +56,8 @@ messageFields (Extended h u d c) =
 unfoldable pub fieldsOf : Line → List ℕ
 fieldsOf (Says m) = messageFields m
 fieldsOf Repeated = field (bytesOf "REPEAT")
-fieldsOf Unequal = field (bytesOf "BROKEN") ++ field (digitsOf 10)
-fieldsOf Unread = field (bytesOf "BROKEN") ++ field (digitsOf 11)
+fieldsOf Unequal = field (bytesOf "BROKEN") ++ field (digitsOf (eventNumber BrokenPair))
+fieldsOf Unread = field (bytesOf "BROKEN") ++ field (digitsOf (eventNumber BrokenUnsupported))
 fieldsOf BadByte = field (bytesOf "BADBYTE")
 
 -- a whole line: the number of the half-cycle, what follows it, and the line's end
@@ -70,8 +71,7 @@ lineOf n (Gives m) = lineText n (Says m)
 lineOf n Repeat = lineText n Repeated
 lineOf n BrokenPair = lineText n Unequal
 lineOf n BrokenUnsupported = lineText n Unread
-lineOf n RefusedHalf = []
-lineOf n RefusedState = []
+lineOf n (Refused why) = []
 
 -- a text is put into a buffer at a place: the buffer then, and the place after it
 pub record Put (before : List ℕ) (at : ℕ) (text after : List ℕ) (next : ℕ) : Type 0 where

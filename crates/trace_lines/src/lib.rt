@@ -1,8 +1,7 @@
 // The lines of the trace program, and the trace of a piece of its input.
 use message::Function;
 use message::Message;
-use message::codes::function_code;
-use message::codes::name_at;
+use message::codes::name_of;
 use receiver::Event;
 use receiver::Receiver;
 use receiver::fresh;
@@ -195,7 +194,7 @@ fn put_function(out: &mut [u8; SIZE], at: usize, house: u8, function: Function) 
 {
     let a = put_field(out, at, FUNCTION);
     let b = put_house(out, a, house);
-    put_field(out, b, name_at(function_code(function)))
+    put_field(out, b, name_of(function))
 }
 
 fn put_extended(
@@ -278,8 +277,7 @@ pub(crate) fn put_event(out: &mut [u8; SIZE], at: usize, number: u64, event: Eve
         Event::Repeat => put_line(out, at, number, Line::Repeat),
         Event::BrokenPair => put_line(out, at, number, Line::BrokenPair),
         Event::BrokenUnsupported => put_line(out, at, number, Line::BrokenUnsupported),
-        Event::RefusedHalf => at,
-        Event::RefusedState => at,
+        Event::Refused(_) => at,
     }
 }
 

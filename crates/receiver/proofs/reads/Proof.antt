@@ -1,8 +1,10 @@
 -- `reads` meets its contract: whether the half-cycle is the first of a pair, and then whether it is what the first was, picks the
 -- case of `readOf`.
 use borrow.Author.Tests.{eq-eqb, ne-eqb}
-use Rattle.receiver.specs.Receivers.{readOf}
+use native.Mathlib.Omega.{arith}
 use borrow.Author.Needs.{needs}
+use Rattle.receiver.specs.Receivers.{readOf}
+use Rattle.receiver.proofs.ReceiverLaws.{at-most, last-code}
 use Rattle.receiver.proofs.reads.Statement.{statement}
 use Rattle.receiver.proofs.reads.Tie as tie
 
@@ -10,7 +12,7 @@ shift-requires : tie.Need-shift-requires
 shift-requires c κs = search needs
 
 add-t9 : tie.Need-add-t9
-add-t9 c = search needs
+add-t9 c = omega (arith, at-most _ _ (c .before .before .before .before .pre .1))
 
 saying-requires : tie.Need-saying-requires
 saying-requires c κs = search needs
@@ -39,7 +41,9 @@ add-pair : tie.Need-add-pair
 add-pair c = search needs
 
 pair-requires : tie.Need-pair-requires
-pair-requires c κs = search needs
+pair-requires c κs =
+    let called = c .before .before .before .before .before .before in
+    (at-most _ _ (called .pre .1), last-code (called .args .r) (called .pre .1))
 
 returns-3 : tie.Need-returns-3
 unfolding readOf

@@ -42,7 +42,9 @@ use denote.Triple.Walked.{says, Stays, stay-ref, stay-none, walkOf, AllGo, goes-
 use denote.Exit.{yes}
 use Rattle.receiver.specs.declared.Receiver.{Receiver}
 use Rattle.receiver.specs.declared.Heard.{Heard}
-use Rattle.receiver.specs.Receivers.{eventNumber, stepOf, stepNumber}
+use Rattle.ground.specs.Refusals.{refusalNumber, judged}
+use Rattle.receiver.specs.Receivers.{eventNumber, stepCauses, stepOf, brokenNumber}
+use Rattle.receiver.proofs.ReceiverLaws.{step-number}
 use Rattle.receiver.proofs.Receiver as T
 use Rattle.receiver.proofs.Receiver.Laws as T′
 use Rattle.receiver.proofs.Heard as O
@@ -66,10 +68,15 @@ module _ {M : Type 1} (𝓤 : URA M) (H : Heap 𝓤) (A : Atoms 𝓤) (at-mem : 
   abbrev Step : Contract 𝓤
   Step = tripleOf 𝓤 H A step.signature (step.spec 𝓤 H A at-mem run)
 
-  stepped : (h : Receiver) (n : ℕ) (r : Heard) → ent 𝓤 (ensured 𝓤 H A step.ended (step.clauses 𝓤 H A at-mem run) tt (h, (n, tt)) tt r) (fact 𝓤 (r ≡ stepOf h n))
-  stepped h n r =
-      exE 𝓤 _ (λ ws. via 𝓤 (sep 𝓤 (fact 𝓤 (r ≡ stepOf h n)) (fact 𝓤 (eventNumber (r .event) ≡ stepNumber h n))) (snd∗ 𝓤 (sem 𝓤 H A (lasts step.ended tt (h, (n, tt)) ws)) (sep 𝓤 (fact 𝓤 (r ≡ stepOf h n)) (fact 𝓤 (eventNumber (r .event) ≡ stepNumber h n))))
-      (fst∗ 𝓤 (fact 𝓤 (r ≡ stepOf h n)) (fact 𝓤 (eventNumber (r .event) ≡ stepNumber h n))))
+  module _ (h : Receiver) (n : ℕ) (r : Heard) where
+    abbrev Answer : SProp 𝓤
+    Answer = fact 𝓤 (r ≡ stepOf h n)
+
+    abbrev Number : SProp 𝓤
+    Number = fact 𝓤 (eventNumber (r .event) ≡ judged (stepCauses h n) (brokenNumber h n) refusalNumber)
+
+    stepped : ent 𝓤 (ensured 𝓤 H A step.ended (step.clauses 𝓤 H A at-mem run) tt (h, (n, tt)) tt r) Answer
+    stepped = exE 𝓤 _ (λ ws. via 𝓤 (sep 𝓤 Answer Number) (snd∗ 𝓤 (sem 𝓤 H A (lasts step.ended tt (h, (n, tt)) ws)) (sep 𝓤 Answer Number)) (fst∗ 𝓤 Answer Number))
 
 module _ {M : Type 1} (𝓤 : URA M) (H : Heap 𝓤) (A : Atoms 𝓤) (W : Given 𝓤 H A) (at-mem : Memory → SProp 𝓤) (run : Routine → Fun 𝓤) (κ : Lft) (q : Share) (b o : ℕ) (γ : GName) (h : Receiver) (n : ℕ) (fits : n < 2 ^ 8) where
   abbrev Arg : Type 0
@@ -104,7 +111,7 @@ module _ {M : Type 1} (𝓤 : URA M) (H : Heap 𝓤) (A : Atoms 𝓤) (W : Given
   exits : Is E.the-row (after .event) (said ∷ []) → ent 𝓤 (sep 𝓤 (A .obs γ (T.the-row .coded .code (after .next))) (sep 𝓤 (A .bor κ (Body (mem T.the-row) b o γ)) (A .lft κ q))) (Post said)
   exits is =
       qed W (‵ (fobs γ (T.the-row .coded .code (after .next))) ∷ ‵ (fbor κ (Body (mem T.the-row) b o γ)) ∷ ‵ (flft κ q) ∷ []) ∵
-      suffices ! _ (ends-at 𝓤 H A receive.ended stayed (receive.clauses 𝓤 H A at-mem run) W (((κ, tt), (q, tt), tt, x, at), tt) said (after .event) (after .next, (tt, tt)) (tt, (tt, tt))) $ says ! (refl, refl) $
+      suffices ! _ (ends-at 𝓤 H A receive.ended stayed (receive.clauses 𝓤 H A at-mem run) W (((κ, tt), (q, tt), tt, x, at), tt) said (after .event) (after .next, (tt, tt)) (tt, (tt, tt))) $ says ! (refl, step-number h n, refl) $
       nothing ! $ move ! (3 ∷ 0 ∷ []) $ join ! $ frame ! $ feqI ! (List Val) (vptr b o ∷ []) (vptr b o ∷ []) refl $ fjoin3 ! $ nothing ! $ owned ! u8 (Is u8) (uint-makes 𝓤 H A W w8) n _ (refl, fits) $ fjoin ! $
       move ! (1 ∷ 0 ∷ []) $ fjoin ! $ owned ! E.the-row (Is E.the-row) (EL.makes E.the-type E′.the-plain 𝓤 H A) (after .event) _ is $ move ! (1 ∷ 0 ∷ []) $ done !
 

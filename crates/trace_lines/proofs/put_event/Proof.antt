@@ -40,9 +40,6 @@ put-line-requires-4 c κs = search needs
 enum-told-5 : tie.Need-enum-told-5
 enum-told-5 c = search needs
 
-enum-told-6 : tie.Need-enum-told-6
-enum-told-6 c = search needs
-
 returns-2 : tie.Need-returns-2
 unfolding roomFor
 returns-2 c = rw (le-leb _ _ (c .before .before .if1 .left), c .enum-told .given .1) (put-none _ _)
@@ -67,10 +64,6 @@ returns-7 : tie.Need-returns-7
 unfolding roomFor
 returns-7 c = rw (le-leb _ _ (c .before .before .if1 .left), c .enum-told5 .given .1) (put-none _ _)
 
-returns-8 : tie.Need-returns-8
-unfolding roomFor
-returns-8 c = rw (le-leb _ _ (c .before .before .if1 .left), c .enum-told6 .given .1) (put-none _ _)
-
 pub put-event-spec : {M : Type 1} → statement M
 put-event-spec =
     tie.close
@@ -86,11 +79,9 @@ put-event-spec =
     enum-told-4
     put-line-requires-4
     enum-told-5
-    enum-told-6
     returns-2
     returns-3
     returns-4
     returns-5
     returns-6
-    returns-7
-    returns-8)
+    returns-7)

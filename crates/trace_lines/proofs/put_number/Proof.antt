@@ -7,7 +7,8 @@ use native.Mathlib.Omega.{arith}
 use lib.ListN.{length, set}
 use lib.Seq.{sets}
 use Rattle.trace_lines.specs.Lines.{digitsUpTo}
-use Rattle.trace_lines.proofs.PutLaws.{sets-append, sets-set}
+use Rattle.ground.proofs.Lists.{sets-append}
+use Rattle.trace_lines.proofs.PutLaws.{sets-set}
 use Rattle.trace_lines.proofs.LineLaws.{lastDigits, length-last, digits-are-last, digits-at-most}
 use Rattle.trace_lines.proofs.put_number.Statement.{statement}
 use Rattle.trace_lines.proofs.put_number.Tie as tie

@@ -5,7 +5,7 @@
 --     hunts-on, hunts-start                    hunting, without a start and with one
 --     step-wanted, step-unwanted               awaiting: the half-cycle that must come, and another
 --     step-first, step-second, step-equal      in the pairs: a pair's first half-cycle, and its second, different or equal
-use Prim.Native.Nat.{ℕ, _+_, _*_, _%_, _≤_}
+use Prim.Native.Nat.{ℕ, _+_, _*_, _%_, _^_, _≤_}
 use mathlib.Core.Logic.{_≢_}
 use mathlib.Core.Path.{_≡_, refl, _∙_}
 use mathlib.Core.Bool.{true, false, _&&_, and-false}
@@ -13,6 +13,7 @@ use native.Mathlib.Omega.{arith}
 use borrow.Author.Tests.{le-leb, lt-leb, eq-eqb, ne-eqb}
 use lib.Dec.{eqb, leb}
 use Rattle.ground.specs.Choice.{pick}
+use Rattle.ground.specs.Refusals.{judged}
 use Rattle.receiver.specs.Receivers.{stepOf, takesOf, huntOf, awaitOf, readOf, pairOf, says, hunting, shifted, receiverOk, pairsOk, givenOk}
 use Rattle.receiver.specs.declared.Given.{Given}
 use Rattle.receiver.specs.declared.Given.the-variants.{No}
@@ -31,7 +32,7 @@ unfolding pairsOk
 hunting-ok p hp = standing-ok No p 0 0 refl hp refl
 
 step-valid : (r : Receiver) (h : ℕ) → receiverOk r ≡ true → h ≤ 1 → stepOf r h ≡ takesOf r h
-unfolding stepOf
+unfolding stepOf judged
 step-valid r h v b = rw (le-leb h 1 b, v)
 
 -- ---- hunting
@@ -86,7 +87,7 @@ module _ (g : Given) (p a b h : ℕ) (v : receiverOk (standing g p a b) ≡ true
     unfolding readOf
     step-first e = reads ∙ rw (eq-eqb (a % 2) 1 e)
 
-    pub step-second : a % 2 ≡ 0 → p % 2 ≢ h → stepOf (standing g p a b) h ≡ pairOf (standing g p a b) (b % 268435456 * 2 + p % 2) (shifted p h)
+    pub step-second : a % 2 ≡ 0 → p % 2 ≢ h → stepOf (standing g p a b) h ≡ pairOf (standing g p a b) (b % 2 ^ 28 * 2 + p % 2) (shifted p h)
     unfolding readOf
     step-second e n = reads ∙ rw (ne-eqb (a % 2) 1 (λ o. omega arith), ne-eqb (p % 2) h n)
 

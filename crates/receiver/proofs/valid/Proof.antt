@@ -1,10 +1,10 @@
--- `acceptable` meets its contract: the three causes of STATE one after the other, each by its test.
+-- `valid` meets its contract: the three causes of STATE one after the other, each by its test.
 use mathlib.Core.Path.{sym, _∙_}
 use borrow.Author.Tests.{le-leb, lt-leb, not-true, not-false}
 use Rattle.receiver.specs.Receivers.{receiverOk}
 use borrow.Author.Needs.{needs}
-use Rattle.receiver.proofs.acceptable.Statement.{statement}
-use Rattle.receiver.proofs.acceptable.Tie as tie
+use Rattle.receiver.proofs.valid.Statement.{statement}
+use Rattle.receiver.proofs.valid.Tie as tie
 
 returns : tie.Need-returns
 unfolding receiverOk
@@ -24,6 +24,6 @@ returns-3 : tie.Need-returns-3
 unfolding receiverOk
 returns-3 c = simp (le-leb _ _ (c .before .before .before .if1 .left), sym (c .before .before .pairs-fit .ensures) ∙ not-false _ (c .before .if2 .left), c .given-valid .ensures)
 
-pub acceptable-spec : {M : Type 1} → statement M
-acceptable-spec =
+pub valid-spec : {M : Type 1} → statement M
+valid-spec =
     tie.close (tie.spec returns pairs-fit-requires returns-2 given-valid-requires returns-3)

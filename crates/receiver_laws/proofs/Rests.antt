@@ -11,8 +11,8 @@ use native.Mathlib.Omega.{arith}
 use Rattle.receiver.specs.Receivers.{stepOf, says, hunting, shifted, receiverOk, freshReceiver}
 use Rattle.receiver.specs.declared.Receiver.{Receiver}
 use Rattle.receiver.specs.declared.Event.the-variants.{Nothing}
-use Rattle.hearing.specs.Whole.{Ready}
-use Rattle.hearing.proofs.Steps.{hunting-ok, no-start-past, hunts-on}
+use Rattle.receiver_laws.specs.Whole.{Ready}
+use Rattle.receiver_laws.proofs.Steps.{hunting-ok, no-start-past, hunts-on}
 
 -- A valid hunting receiver that has heard c clear half-cycles or more in a row; a 0 does not complete the start pattern.
 pub record Rests (c : ℕ) (r : Receiver) : Type 0 where

@@ -13,24 +13,24 @@ use mathlib.Core.Bool.{true}
 use mathlib.Core.List.{[], _∷_, _++_}
 use native.Mathlib.Nat.{div-one}
 use native.Mathlib.Omega.{arith}
-use borrow.Author.Tests.{eq-eqb}
 use lib.Dec.{leb}
 use lib.ListN.{replicate}
 use Rattle.ground.specs.Choice.{pick}
 use Rattle.message.specs.Messages.{messageOk}
-use Rattle.message.specs.Words.{wordOf, bitCount}
+use Rattle.message.specs.Words.{wordOf}
 use Rattle.message.specs.declared.Message.{Message}
+use Rattle.message.proofs.CodeLaws.{same-is-equal}
 use Rattle.burst.specs.Frames.{bitsOf, pairsOf, frameOf}
 use Rattle.receiver.specs.Receivers.{stepOf, pairOf, completeOf, says, hunting, shifted, receiverOk, givenOk}
 use Rattle.receiver.specs.declared.Given.{Given}
 use Rattle.receiver.specs.declared.Given.the-variants.{No, Yes}
 use Rattle.receiver.specs.declared.Receiver.{Receiver}
 use Rattle.receiver.specs.declared.Event.the-variants.{Nothing, Message as Gives, Repeat, BrokenPair}
-use Rattle.hearing.specs.Whole.{Ready, frameEvents, lastSix}
-use Rattle.hearing.proofs.Runs.{Run, run-none, run-more, run-append}
-use Rattle.hearing.proofs.Steps.{standing, standing-ok, hunting-ok, NoStart, no-start-one, hunts-on, hunts-start, step-wanted, step-unwanted, step-first, step-second, step-equal}
-use Rattle.hearing.proofs.FrameBits.{Framed, twice, one-more-bit, pairs-few}
-use Rattle.hearing.proofs.Pasts.{start, paired}
+use Rattle.receiver_laws.specs.Whole.{Ready, frameEvents, lastSix}
+use Rattle.receiver_laws.proofs.Runs.{Run, run-none, run-more, run-append}
+use Rattle.receiver_laws.proofs.Steps.{standing, standing-ok, hunting-ok, NoStart, no-start-one, hunts-on, hunts-start, step-wanted, step-unwanted, step-first, step-second, step-equal}
+use Rattle.receiver_laws.proofs.FrameBits.{Framed, twice, one-more-bit, pairs-few}
+use Rattle.receiver_laws.proofs.Pasts.{start, paired}
 
 -- ---- the pairs
 
@@ -65,7 +65,7 @@ module _ (m : Message) (F : Framed m) (g : Given) (ok : givenOk g ≡ true) wher
         step-second g (shifted p x) (a + 1) (wordOf m / 2 ^ suc i) (1 - x)
         (valid (a + 1) (shifted p x) (omega arith)) (omega arith) (omega arith) (omega arith) (omega arith)
         ∙ ap (λ (b : ℕ). pairOf (reading m g i (a + 1) (shifted p x)) b (paired p x))
-        (ap (λ (y : ℕ). wordOf m / 2 ^ suc i % 268435456 * 2 + y) same ∙ one-more-bit (wordOf m) i (F .small))
+        (ap (λ (y : ℕ). wordOf m / 2 ^ suc i % 2 ^ 28 * 2 + y) same ∙ one-more-bit (wordOf m) i (F .small))
 
   module _ (i a p : ℕ) (h : Before F (suc i) a p) where
     pub before-next : Before F i (a + 1 + 1) (paired p (bit m (suc i)))
@@ -165,5 +165,5 @@ module _ (m : Message) (F : Framed m) (ok : messageOk m ≡ true) where
   pub hears-repeat : (p : ℕ) → p ≤ 63 → Run (awaiting m p) (frameOf m) (frameEvents m Repeat) (hunting (lastSix p (frameOf m)))
   unfolding completeOf
   hears-repeat p hp =
-      rw (eq-eqb (bitCount m) (bitCount m) refl, eq-eqb (wordOf m) (wordOf m) refl)
+      rw (same-is-equal m m .1 refl)
       at (hears-whole (awaiting m p) (Yes m) ok (awaiting-starts m ok p hp))

@@ -16,13 +16,13 @@ use Rattle.burst.specs.Frames.{frameOf, burstOf}
 use Rattle.receiver.specs.Receivers.{hunting, shifted, freshReceiver}
 use Rattle.receiver.specs.declared.Receiver.{Receiver}
 use Rattle.receiver.specs.declared.Event.the-variants.{Nothing}
-use Rattle.hearing.specs.Whole.{clear, Ready, burstEvents, lastSix, Hears, EveryBurstIsHeard}
-use Rattle.hearing.proofs.Runs.{Run, run-more, run-append}
-use Rattle.hearing.proofs.FrameBits.{framed}
-use Rattle.hearing.proofs.Pasts.{six-append, clean-frame}
-use Rattle.hearing.proofs.FrameHeard.{hears-frame, hears-repeat}
-use Rattle.hearing.proofs.Hush.{Hush, hush-run, hush-append, hush-clear, hush-frame}
-use Rattle.hearing.proofs.Rests.{Rests, rests-fresh, ready-rests, rests-ready, rests-step, rests-next}
+use Rattle.receiver_laws.specs.Whole.{clear, Ready, burstEvents, lastSix, Hears, EveryBurstIsHeard}
+use Rattle.receiver_laws.proofs.Runs.{Run, run-more, run-append}
+use Rattle.receiver_laws.proofs.FrameBits.{framed}
+use Rattle.receiver_laws.proofs.Pasts.{six-append, clean-frame}
+use Rattle.receiver_laws.proofs.FrameHeard.{hears-frame, hears-repeat}
+use Rattle.receiver_laws.proofs.Hush.{Hush, hush-run, hush-append, hush-clear, hush-frame}
+use Rattle.receiver_laws.proofs.Rests.{Rests, rests-fresh, ready-rests, rests-ready, rests-step, rests-next}
 
 module _ (m : Message) (ok : messageOk m ≡ true) (bytes : BytesOk m) where
   pub hears-burst : (r : Receiver) → Ready r → Run r (burstOf m) (burstEvents m) (hunting (lastSix (r .past) (burstOf m)))

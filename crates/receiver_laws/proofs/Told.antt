@@ -15,10 +15,10 @@ use Rattle.receiver.specs.Hearing.{eventsOf}
 use Rattle.receiver.specs.declared.Receiver.{Receiver}
 use Rattle.receiver.specs.declared.Event.{Event}
 use Rattle.receiver.specs.declared.Event.the-variants.{Nothing}
-use Rattle.hearing.specs.Whole.{frameEvents}
-use Rattle.hearing.specs.Inversion.{givenBy, told}
-use Rattle.hearing.proofs.Runs.{Run, events-append}
-use Rattle.hearing.proofs.Hush.{Hush, hush-run}
+use Rattle.receiver_laws.specs.Whole.{frameEvents}
+use Rattle.receiver_laws.specs.Inversion.{givenBy, told}
+use Rattle.receiver_laws.proofs.Runs.{Run, events-append}
+use Rattle.receiver_laws.proofs.Hush.{Hush, hush-run}
 
 abbrev pub tells : Receiver → List ℕ → List Message
 tells r hs = told (eventsOf r hs)

@@ -17,11 +17,11 @@ use Rattle.message.specs.declared.Message.{Message}
 use Rattle.burst.specs.Frames.{bitsOf, pairsOf, frameOf}
 use Rattle.receiver.specs.Receivers.{hunting, shifted}
 use Rattle.receiver.specs.declared.Event.the-variants.{Nothing}
-use Rattle.hearing.specs.Whole.{clear, lastSix}
-use Rattle.hearing.specs.Inversion.{inverted}
-use Rattle.hearing.proofs.Runs.{Run, run-none, run-more}
-use Rattle.hearing.proofs.Steps.{hunting-ok, NoStart, no-start-one, no-start-past, hunts-on}
-use Rattle.hearing.proofs.Pasts.{start, paired, two-more, two-kept, three-more, four-more, Bits, bits-of, Clean}
+use Rattle.receiver_laws.specs.Whole.{clear, lastSix}
+use Rattle.receiver_laws.specs.Inversion.{inverted}
+use Rattle.receiver_laws.proofs.Runs.{Run, run-none, run-more}
+use Rattle.receiver_laws.proofs.Steps.{hunting-ok, NoStart, no-start-one, no-start-past, hunts-on}
+use Rattle.receiver_laws.proofs.Pasts.{start, paired, two-more, two-kept, three-more, four-more, Bits, bits-of, Clean}
 
 -- the half-cycles are 0 or 1, and none of them completes the start pattern
 abbrev pub Hush : ℕ → List ℕ → Type 0

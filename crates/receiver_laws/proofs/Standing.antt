@@ -29,10 +29,10 @@ use Rattle.receiver.specs.Hearing.{eventsOf, receiverAfter}
 use Rattle.receiver.specs.declared.Receiver.{Receiver}
 use Rattle.receiver.specs.declared.Event.{Event}
 use Rattle.receiver.specs.declared.Event.the-variants.{Nothing, Message as Gives, Repeat}
-use Rattle.hearing.specs.Whole.{Ready, frameEvents, burstEvents, lastSix}
-use Rattle.hearing.proofs.Pasts.{clean-burst}
-use Rattle.hearing.proofs.Rests.{Rests, rests-hunting}
-use Rattle.hearing.proofs.Whole.{hears-burst}
+use Rattle.receiver_laws.specs.Whole.{Ready, frameEvents, burstEvents, lastSix}
+use Rattle.receiver_laws.proofs.Pasts.{clean-burst}
+use Rattle.receiver_laws.proofs.Rests.{Rests, rests-hunting}
+use Rattle.receiver_laws.proofs.Whole.{hears-burst}
 
 unfoldable pub standsAt : Message → Receiver → ℕ → Receiver
 standsAt m r k = receiverAfter r (take k (burstOf m))

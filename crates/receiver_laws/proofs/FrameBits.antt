@@ -12,25 +12,24 @@ use native.Mathlib.Decide.{decLe, ℕ-discrete}
 use native.Mathlib.Omega.{arith}
 use borrow.Author.Tests.{le-leb, lt-leb, eq-eqb, ne-eqb}
 use lib.Pow.{shr-shr, shr-le}
-use Rattle.message.specs.Codes.{codeOf, meaningOf, meanings}
+use Rattle.message.specs.Codes.{codeOf}
 use Rattle.message.specs.Messages.{messageOk, BytesOk}
 use Rattle.message.specs.Words.{nine, wordOf, bitCount, standardOf}
 use Rattle.message.specs.declared.Message.{Message}
 use Rattle.message.specs.declared.Message.the-variants.{Address, Function as Command, Extended}
-use Rattle.message.specs.declared.Reading.the-variants.{Whole, Extended as Begun}
-use Rattle.message.proofs.CodeLaws.{code-below}
-use Rattle.message.proofs.WordLaws.{word-below, head-of-extended, standard-of-address, standard-of-function, extended-of-word}
+use Rattle.message.specs.declared.word.Reading.the-variants.{Message as Says, Longer}
+use Rattle.message.proofs.WordLaws.{word-below, head-of-extended, standard-of-head, standard-of-address, standard-of-function, extended-of-word}
 use Rattle.burst.specs.Frames.{frameLength}
 use Rattle.receiver.specs.Receivers.{pairOf, completeOf, says, pairsOk}
 use Rattle.receiver.specs.declared.Given.{Given}
 use Rattle.receiver.specs.declared.Event.the-variants.{Nothing}
-use Rattle.hearing.proofs.Steps.{standing}
+use Rattle.receiver_laws.proofs.Steps.{standing}
 
 half-word : (w i : ℕ) → w / 2 ^ suc i ≡ w / 2 ^ i / 2
 half-word w i = sym (shr-shr w i 1 ∙ ap (λ (n : ℕ). w / 2 ^ n) (add-one i))
 
 -- with the next bit after the bits so far, one bit fewer of the word is left; the receiver keeps 28 of those so far
-pub one-more-bit : (w i : ℕ) → w < 2 ^ 29 → w / 2 ^ suc i % 268435456 * 2 + w / 2 ^ i % 2 ≡ w / 2 ^ i
+pub one-more-bit : (w i : ℕ) → w < 2 ^ 29 → w / 2 ^ suc i % 2 ^ 28 * 2 + w / 2 ^ i % 2 ≡ w / 2 ^ i
 one-more-bit w i h =
     let low : w / 2 ^ i ≤ w = shr-le w i in
     rw (half-word w i) (omega arith)
@@ -62,7 +61,7 @@ pub pairs-few : (a b : ℕ) → a ≤ 22 → pairsOk a b ≡ true
 unfolding pairsOk
 pairs-few a b h = rw (le-leb a 22 h)
 
-standard : (m : Message) → bitCount m ≡ 9 → frameLength m ≡ 22 → wordOf m < 2 ^ 9 → standardOf (wordOf m) ≡ Whole m → Framed m
+standard : (m : Message) → bitCount m ≡ 9 → frameLength m ≡ 22 → wordOf m < 2 ^ 9 → standardOf (wordOf m) ≡ Says m → Framed m
 unfolding pairOf
 standard m n f s e = record {
   rest = 8;
@@ -74,14 +73,6 @@ standard m n f s e = record {
   more = λ g p q i a b h. rw (ne-eqb (a + 1) 22 (λ x. omega arith), ne-eqb (a + 1) 62 (λ x. omega arith));
   last = λ g p q a b h. rw (eq-eqb (a + 1) 22 (omega arith), e);
 }
-
--- nine bits that begin an extended message
-begun : (h : ℕ) → standardOf (nine (codeOf h) 7 1) ≡ Begun
-unfolding standardOf meaningOf meanings
-begun h =
-    let code : nine (codeOf h) 7 1 / 2 % 16 ≡ 7 = omega (arith, code-below h) in
-    let bit : nine (codeOf h) 7 1 % 2 ≡ 1 = omega arith in
-    simp (code, bit)
 
 module _ (h u d c : ℕ) (ok : messageOk (Extended h u d c) ≡ true) (bytes : BytesOk (Extended h u d c)) where
   w : ℕ
@@ -113,8 +104,8 @@ module _ (h u d c : ℕ) (ok : messageOk (Extended h u d c) ≡ true) (bytes : B
       go : Dec (a ≡ 21) → pairOf (standing g p (a + 1) b) (w / 2 ^ suc i) q ≡ says Nothing (standing g q (a + 1 + 1) (w / 2 ^ suc i))
       go (yes n) =
           let nth : suc i ≡ 20 = omega arith in
-          let says-so : standardOf (w / 2 ^ suc i) ≡ Begun = ap (λ (x : ℕ). standardOf (w / 2 ^ x)) nth ∙ ap standardOf nine-bits ∙ begun h in
-          rw (eq-eqb (a + 1) 22 (omega arith), says-so) (ap (λ (x : ℕ). says Nothing (standing g q x (w / 2 ^ suc i))) (omega arith))
+          let says-so : standardOf (w / 2 ^ suc i) ≡ Longer = ap (λ (x : ℕ). standardOf (w / 2 ^ x)) nth ∙ ap standardOf nine-bits ∙ standard-of-head h in
+          rw (eq-eqb (a + 1) 22 (omega arith), says-so)
       go (no n) = rw (ne-eqb (a + 1) 22 (λ x. omega arith), ne-eqb (a + 1) 62 (λ x. omega arith))
 
   last-pair : (g : Given) (p q a b : ℕ) → a ≡ 61 → pairOf (standing g p (a + 1) b) w q ≡ completeOf g (Extended h u d c) q

@@ -14,7 +14,7 @@ use Rattle.message.specs.Words.{wordOf, bitCount}
 use Rattle.message.specs.declared.Message.{Message}
 use Rattle.burst.specs.Frames.{bitsOf, pairsOf, frameOf, burstOf}
 use Rattle.receiver.specs.Receivers.{shifted}
-use Rattle.hearing.specs.Whole.{lastSix}
+use Rattle.receiver_laws.specs.Whole.{lastSix}
 
 abbrev pub start : List ℕ
 start = 1 ∷ 1 ∷ 1 ∷ 0 ∷ []

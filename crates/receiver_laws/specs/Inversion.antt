@@ -12,8 +12,8 @@ use Rattle.burst.specs.Frames.{burstOf}
 use Rattle.receiver.specs.Receivers.{freshReceiver}
 use Rattle.receiver.specs.Hearing.{eventsOf}
 use Rattle.receiver.specs.declared.Event.{Event}
-use Rattle.receiver.specs.declared.Event.the-variants.{Nothing, Message as Gives, Repeat, BrokenPair, BrokenUnsupported, RefusedHalf, RefusedState}
-use Rattle.hearing.specs.Whole.{clear}
+use Rattle.receiver.specs.declared.Event.the-variants.{Nothing, Message as Gives, Repeat, BrokenPair, BrokenUnsupported, Refused}
+use Rattle.receiver_laws.specs.Whole.{clear}
 
 -- the half-cycle at i inverted, the others as they are
 unfoldable pub inverted : ℕ → List ℕ → List ℕ
@@ -26,8 +26,7 @@ givenBy (Gives m) = m ∷ []
 givenBy Repeat = []
 givenBy BrokenPair = []
 givenBy BrokenUnsupported = []
-givenBy RefusedHalf = []
-givenBy RefusedState = []
+givenBy (Refused why) = []
 
 -- the messages given, one after the other
 unfoldable pub told : List Event → List Message
