@@ -1,10 +1,14 @@
 // Sequences of messages that a user would try, each on a few modules. A message is printed with what `apply` answered, and under it
 // each record and house byte that it changed, as they are then. The file `stdout` was worked out from 01 by hand.
-use apply::apply;
 use message::Function;
 use message::Message;
+use radio::RadioBytes;
+use radio::RadioCommand;
 use record::RECORD_BYTES;
 use record::TABLE_BYTES;
+use room::apply;
+use room::routes::mains_route;
+use room::routes::radio_route;
 use show::text;
 
 mod show;
@@ -71,23 +75,87 @@ fn extended(room: [u8; TABLE_BYTES], unit: u8, command: u8, data: u8) -> [u8; TA
     )
 }
 
-// Lamp A1 was called and switched on before; then the button for lamp A3, whose press is an address and a function.
-fn reading() -> [u8; TABLE_BYTES] {
-    let t = address(new_room(), 0);
-    let t = function(t, Function::On);
-    let t = address(t, 2);
-    function(t, Function::On)
+// A table, and the receiver that listens to the mains for it, in its eleven bytes.
+struct Listening {
+    table: [u8; TABLE_BYTES],
+    state: [u8; 11],
 }
 
-// The button on the wall and the one by radio.
+// Sends a message on the mains, its burst after three clear half-cycles, and prints what came of it.
+fn burst_to(before: Listening, m: Message) -> Listening {
+    let mut line = [0u8; 47];
+    let mut events = [0u8; 282];
+    let mut answers = [0u8; 376];
+    let table = before.table;
+    let mut t = table;
+    let mut state = before.state;
+    burst::write_burst(m, &mut line[3..]);
+    let a = mains_route(&mut state, &line, &mut t, &mut events, &mut answers);
+    show::applied(m, a);
+    show::changed_records(&table, &t);
+    show::changed_houses(&table, &t);
+    Listening {
+        table: t,
+        state: state,
+    }
+}
+
+// On of a unit of house A, pressed on the wall: an address and a function, each a burst on the mains.
+fn wall_on(before: Listening, unit: u8) -> Listening {
+    let addressed = burst_to(
+        before,
+        Message::Address {
+            house: 0,
+            unit: unit,
+        },
+    );
+    burst_to(
+        addressed,
+        Message::Function {
+            house: 0,
+            function: Function::On,
+        },
+    )
+}
+
+// The same pressed on a radio keypad: four bytes.
+fn radio_on(before: [u8; TABLE_BYTES], unit: u8) -> [u8; TABLE_BYTES] {
+    let mut t = before;
+    match radio::write(RadioCommand::On {
+        house: 0,
+        unit: unit,
+    }) {
+        RadioBytes::Bytes(b, x, c, y) => {
+            let code = [b, x, c, y];
+            let a = radio_route(&mut t, &code);
+            show::coded(&code, a);
+        }
+        RadioBytes::Refused(_) => {}
+    }
+    show::changed_records(&before, &t);
+    show::changed_houses(&before, &t);
+    t
+}
+
+// Lamp A1 is called and switched on, and then lamp A3: by bursts, a receiver and the mains route, and by radio bytes and the radio route.
 fn both_buttons() {
+    let mut state = [0u8; 11];
+    wire::receivers::fresh(&mut state);
     text(b"Reading, by the wall\n");
-    let wall = reading();
+    let wall = wall_on(
+        Listening {
+            table: new_room(),
+            state: state,
+        },
+        0,
+    );
+    let wall = wall_on(wall, 2);
+    let by_wall = wall.table;
     text(b"Reading, by radio\n");
-    let radio = reading();
+    let by_radio = radio_on(radio_on(new_room(), 0), 2);
     text(b"what the two tables differ in\n");
-    show::changed_records(&wall, &radio);
-    show::changed_houses(&wall, &radio);
+    show::changed_records(&by_wall, &by_radio);
+    show::changed_houses(&by_wall, &by_radio);
 }
 
 fn called_together() {

@@ -1,14 +1,15 @@
 // Lines for a reader: a message with what applying it answered, and what it changed in the table.
-use apply::ApplyAnswer;
+use ground::refusal_number;
 use libc::STDOUT_FILENO;
+use message::Function;
 use message::Message;
-use message::codes::function_code;
-use message::codes::name_at;
+use message::codes::name_of;
 use record::HEARD_AT;
 use record::HOUSES;
 use record::RECORD_BYTES;
 use record::RECORDS;
 use record::TABLE_BYTES;
+use room::RoomAnswer;
 ghost use Prim.Native.Nat.{_≤_, _<_};
 
 const DIGITS: [u8; 16] = *b"0123456789ABCDEF";
@@ -66,9 +67,8 @@ fn length(name: &[u8; 16]) -> usize
     n
 }
 
-// The name of the function that has a code.
-fn name(code: u8) {
-    let letters = name_at(code);
+fn name(f: Function) {
+    let letters = name_of(f);
     let n = io::count(length(&letters) as isize, &letters);
     text(&letters[..n]);
 }
@@ -82,7 +82,7 @@ fn message(m: Message) {
         Message::Function { house: h, function } => {
             house(h);
             text(b" ");
-            name(function_code(function));
+            name(function);
         }
         Message::Extended {
             house: h,
@@ -99,21 +99,36 @@ fn message(m: Message) {
     }
 }
 
-fn answer(a: ApplyAnswer) {
+fn answer(a: RoomAnswer) {
     match a {
-        ApplyAnswer::Applied(n) => {
-            number(n as u64);
+        RoomAnswer::Done(c) => {
+            number(c.levels as u64);
             text(b" changed\n");
         }
-        ApplyAnswer::RefusedTable => text(b"refused 1\n"),
-        ApplyAnswer::RefusedMessage => text(b"refused 2\n"),
-        ApplyAnswer::RefusedRecord => text(b"refused 3\n"),
-        ApplyAnswer::NotCarried => text(b"refused 4\n"),
+        RoomAnswer::Refused(why) => {
+            text(b"refused ");
+            number(refusal_number(why) as u64);
+            text(b"\n");
+        }
     }
 }
 
-pub(crate) fn applied(m: Message, a: ApplyAnswer) {
+pub(crate) fn applied(m: Message, a: RoomAnswer) {
     message(m);
+    text(b": ");
+    answer(a);
+}
+
+// A radio code, and what came of it.
+pub(crate) fn coded(code: &[u8; 4], a: RoomAnswer) {
+    text(b"radio ");
+    hex(code[0]);
+    text(b" ");
+    hex(code[1]);
+    text(b" ");
+    hex(code[2]);
+    text(b" ");
+    hex(code[3]);
     text(b": ");
     answer(a);
 }

@@ -3,20 +3,22 @@ use Prim.Native.Nat.{ℕ}
 use mathlib.Core.List.{List, [], _∷_}
 use lib.Dec.{eqb}
 use Rattle.ground.specs.Choice.{pick}
+use Rattle.ground.specs.declared.Refusal.the-variants as refusal
 use Rattle.radio.specs.declared.RadioCommand.{RadioCommand}
 use Rattle.radio.specs.declared.RadioCommand.the-variants.{On, Off, Bright, Dim}
 use Rattle.x10.specs.declared.commands.CommandRead.{CommandRead}
-use Rattle.x10.specs.declared.commands.CommandRead.the-variants.{Command as Says, NoCommand}
+use Rattle.x10.specs.declared.commands.CommandRead.the-variants.{Command as Says, Refused}
 use Rattle.x10.specs.declared.commands.Three.{Three}
 
--- the command that three numbers say; a number above 3 says none. The unit is not looked at for bright and dim.
+-- the command that three numbers say: 2 for a number above 3. The unit is not looked at for bright and dim, and a house or unit above 15 is
+-- the writer's to refuse.
 unfoldable pub commandFrom : ℕ → ℕ → ℕ → CommandRead
 commandFrom command house unit =
     pick (eqb command 0) (Says (On house unit))
     (pick (eqb command 1) (Says (Off house unit))
     (pick (eqb command 2) (Says (Bright house))
     (pick (eqb command 3) (Says (Dim house))
-    NoCommand)))
+    (Refused refusal.Message))))
 
 -- the three bytes of a command, 0 for the unit of bright and dim
 abbrev pub commandBytes : RadioCommand → List ℕ

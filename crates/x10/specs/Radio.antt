@@ -1,40 +1,50 @@
 -- `x10_radio_write` and `x10_radio_read`: a radio command in three numbers, and its four bytes.
 use Prim.Native.Nat.{ℕ}
-use mathlib.Core.List.{List, _++_, flatMap}
-use lib.Dec.{eqb, leb}
+use mathlib.Core.List.{List, [], _∷_, _++_}
+use lib.Dec.{leb}
 use lib.ListN.{length, drop}
-use Rattle.ground.specs.Choice.{pick}
-use Rattle.message.specs.Numbers.{NONE, MESSAGE, SHORT}
-use Rattle.radio.specs.Answers.{writeAnswer, readAnswer}
+use Rattle.ground.specs.Refusals.{Cause, unless, judged}
+use Rattle.ground.specs.declared.CountAnswer.{CountAnswer}
+use Rattle.ground.specs.declared.CountAnswer.the-variants.{Done, Refused}
+use Rattle.ground.specs.declared.Refusal.the-variants as refusal
+use Rattle.radio.specs.Codes.{fourBytes, commandOf}
+use Rattle.radio.specs.Answers.{writeCauses, readCauses}
+use Rattle.radio.specs.declared.RadioCommand.{RadioCommand}
 use Rattle.x10.specs.Commands.{commandBytes}
 use Rattle.x10.specs.declared.commands.CommandRead.{CommandRead}
-use Rattle.x10.specs.declared.commands.CommandRead.the-variants.{Command as Says, NoCommand}
-use Rattle.x10.specs.Packed.{packed}
+use Rattle.x10.specs.declared.commands.CommandRead.the-variants.{Command as Says, Refused as NoCommand}
 
 -- bytes at a buffer's front; "bytes beyond stay"
 abbrev pub front : List ℕ → List ℕ → List ℕ
 front bytes buf = bytes ++ drop (length bytes) buf
 
--- ---- writing: 2 for no such command, or a house or unit above 15; 9 for a buffer below 4
+-- ---- writing: what the writer refuses, 2, and then 9 for a buffer below 4
 
-abbrev pub writeGiven : CommandRead → ℕ → ℕ
-writeGiven (Says k) room =
-    pick (eqb (writeAnswer k .number) NONE) (pick (leb 4 room) (packed NONE 4) (packed SHORT 0)) (packed (writeAnswer k .number) 0)
-writeGiven NoCommand room = packed MESSAGE 0
+abbrev pub codeCauses : RadioCommand → ℕ → List Cause
+codeCauses k room = writeCauses k ++ (unless (leb 4 room) refusal.Short ∷ [])
 
--- the buffer at exit: a refused command has no bytes
-abbrev pub writeLeft : CommandRead → List ℕ → List ℕ
-writeLeft (Says k) buf = pick (leb 4 (length buf)) (front (writeAnswer k .values) buf) buf
-writeLeft NoCommand buf = buf
+unfoldable pub codeAnswer : RadioCommand → ℕ → CountAnswer
+codeAnswer k room = judged (codeCauses k room) (Done 4) Refused
 
--- ---- reading: 9 for a buffer below 3; then what the reader refuses
+unfoldable pub codeAfter : RadioCommand → List ℕ → List ℕ
+codeAfter k buf = judged (codeCauses k (length buf)) (front (fourBytes k) buf) (λ why. buf)
 
--- the three bytes of the command that is read, and none where it is refused
-unfoldable pub readBytes : List ℕ → List ℕ
-readBytes code = flatMap commandBytes (readAnswer code .values)
+-- of three numbers that say no command, the refusal
+abbrev pub codeAnswerBy : CommandRead → ℕ → CountAnswer
+codeAnswerBy (Says k) room = codeAnswer k room
+codeAnswerBy (NoCommand why) room = Refused why
 
-unfoldable pub readGiven : List ℕ → ℕ → ℕ
-readGiven code room = pick (leb 3 room) (packed (readAnswer code .number) (length (readBytes code))) (packed SHORT 0)
+abbrev pub codeAfterBy : CommandRead → List ℕ → List ℕ
+codeAfterBy (Says k) buf = codeAfter k buf
+codeAfterBy (NoCommand why) buf = buf
 
-unfoldable pub readLeft : List ℕ → List ℕ → List ℕ
-readLeft code buf = pick (leb 3 (length buf)) (front (readBytes code) buf) buf
+-- ---- reading: 9 for a buffer below 3, and then what the reader refuses, 12, 13, 14
+
+abbrev pub commandCauses : List ℕ → ℕ → List Cause
+commandCauses code room = unless (leb 3 room) refusal.Short ∷ readCauses code
+
+unfoldable pub commandAnswer : List ℕ → ℕ → CountAnswer
+commandAnswer code room = judged (commandCauses code room) (Done 3) Refused
+
+unfoldable pub commandAfter : List ℕ → List ℕ → List ℕ
+commandAfter code buf = judged (commandCauses code (length buf)) (front (commandBytes (commandOf code)) buf) (λ why. buf)

@@ -1,4 +1,5 @@
 // A radio command as numbers and bytes.
+use ground::Refusal;
 use radio::RadioCommand;
 ghost use mathlib.Core.Path.{_≡_};
 ghost use Rattle.x10.specs.Commands.{commandFrom, threeListed, commandBytes};
@@ -6,7 +7,7 @@ ghost use Rattle.x10.specs.Commands.{commandFrom, threeListed, commandBy
 // What three numbers say.
 pub enum CommandRead {
     Command(RadioCommand),
-    NoCommand,
+    Refused(Refusal),
 }
 
 // The three numbers of a radio command: 0 on, 1 off, 2 bright, 3 dim; its house; its unit, 0 where it has none.
@@ -31,7 +32,7 @@ pub(crate) fn command_from(command: u8, house: u8, unit: u8) -> CommandRead
         }),
         2 => CommandRead::Command(RadioCommand::Bright { house: house }),
         3 => CommandRead::Command(RadioCommand::Dim { house: house }),
-        _ => CommandRead::NoCommand,
+        _ => CommandRead::Refused(Refusal::Message),
     }
 }
 
