@@ -23,7 +23,6 @@ use Rattle.message.specs.Codes.{numberOf, meaningOf, meanings}
 use Rattle.message.specs.Messages.{messageOk}
 use Rattle.message.specs.Words.{functionReading, standardOf, extendedOf, standardAnswer, extendedAnswer}
 use Rattle.message.specs.declared.Message.{Message}
-use Rattle.message.specs.declared.Message.the-variants.{Address}
 use Rattle.message.specs.declared.word.Reading.{Reading}
 use Rattle.message.specs.declared.word.Reading.the-variants.{Message as Says, Longer, Unsupported, Refused as NotRead}
 use Rattle.message.proofs.Tables.{every-at}
@@ -34,7 +33,9 @@ use Rattle.receiver.specs.declared.Receiver.{Receiver}
 use Rattle.receiver.specs.declared.Event.{Event}
 use Rattle.receiver.specs.declared.Event.the-variants.{Nothing, Message as Gives, Repeat, BrokenPair, BrokenUnsupported, Refused}
 use Rattle.receiver.specs.declared.Heard.{Heard}
-use Rattle.receiver.specs.Receivers.{eventNumber, freshReceiver, pairsOk, givenOk, receiverOk, shifted, hunting, says, huntOf, awaitOf, isRepeat, completeOf, outcomeOf, pairOf, bitsAfter, readOf, takesOf, stepCauses, stepOf, equalPair, unsupportedCode, brokenNumber, LowestFirst, FreshIsValid, StaysValid, GivesValid}
+use Rattle.receiver.specs.Receivers.{shifted, hunting, says, huntOf, awaitOf, isRepeat, completeOf, outcomeOf, pairOf, bitsAfter, readOf, takesOf}
+use Rattle.receiver.specs.Receivers.{eventNumber, pairsOk, givenOk, receiverOk, stepCauses, stepOf, unsupportedCode, brokenNumber}
+use Rattle.receiver.specs.Receivers.{LowestFirst, FreshIsValid, StaysValid, GivesValid}
 
 -- ---- the ways in which a half-cycle is taken
 
@@ -411,6 +412,7 @@ pub stays-valid : StaysValid
 unfolding stepOf judged
 stays-valid r h ok = go (leb h 1) (leb-true h 1)
   where
-    go : (a : Bool) → (a ≡ true → h ≤ 1) → receiverOk (pick a (pick (receiverOk r) (takesOf r h) (says (Refused refusal.State) r)) (says (Refused refusal.Half) r) .next) ≡ true
+    go : (a : Bool) → (a ≡ true → h ≤ 1)
+        → receiverOk (pick a (pick (receiverOk r) (takesOf r h) (says (Refused refusal.State) r)) (says (Refused refusal.Half) r) .next) ≡ true
     go true bit = rw ok (stays-taken r h (bit refl) ok (taken r h))
     go false bit = ok

@@ -27,7 +27,9 @@ saying-requires c κs = search needs
 
 returns-2 : tie.Need-returns-2
 unfolding awaitOf
-returns-2 c = simp (c .saying .ensures, c .before .before .shift .ensures, eq-eqb _ _ (c .before .before .before .if1 .left ∙ c .before .before .before .before .awaited .ensures))
+returns-2 c =
+    let asked = c .before .before .before in
+    simp (c .saying .ensures, c .before .before .shift .ensures, eq-eqb _ _ (asked .if1 .left ∙ asked .before .awaited .ensures))
 
 pub awaits-spec : {M : Type 1} → statement M
 awaits-spec =

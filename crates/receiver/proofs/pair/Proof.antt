@@ -40,19 +40,27 @@ saying-requires-3 c κs = search needs
 
 returns : tie.Need-returns
 unfolding pairOf
-returns c = simp (c .complete .ensures, sym (c .before .before .before .before .reading .ensures) ∙ c .before .before .m .given .1)
+returns c =
+    let arm = c .before .before in
+    simp (c .complete .ensures, sym (arm .before .before .reading .ensures) ∙ arm .m .given .1)
 
 returns-2 : tie.Need-returns-2
 unfolding pairOf
-returns-2 c = simp (c .saying .ensures, sym (c .before .before .before .before .reading .ensures) ∙ c .before .before .enum-told .given .1)
+returns-2 c =
+    let arm = c .before .before in
+    simp (c .saying .ensures, sym (arm .before .before .reading .ensures) ∙ arm .enum-told .given .1)
 
 returns-3 : tie.Need-returns-3
 unfolding pairOf
-returns-3 c = simp (c .saying2 .ensures, c .before .hunts .ensures, sym (c .before .before .before .before .reading .ensures) ∙ c .before .before .enum-told2 .given .1)
+returns-3 c =
+    let arm = c .before .before in
+    simp (c .saying2 .ensures, c .before .hunts .ensures, sym (arm .before .before .reading .ensures) ∙ arm .enum-told2 .given .1)
 
 returns-4 : tie.Need-returns-4
 unfolding pairOf
-returns-4 c = simp (c .saying3 .ensures, sym (c .before .before .before .before .reading .ensures) ∙ c .before .before .why .given .1)
+returns-4 c =
+    let arm = c .before .before in
+    simp (c .saying3 .ensures, sym (arm .before .before .reading .ensures) ∙ arm .why .given .1)
 
 pub pair-spec : {M : Type 1} → statement M
 pair-spec =

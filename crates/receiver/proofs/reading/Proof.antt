@@ -16,7 +16,10 @@ read-extended-requires : tie.Need-read-extended-requires
 read-extended-requires c κs = search needs
 
 returns-2 : tie.Need-returns-2
-returns-2 c = simp (c .read-extended .ensures .0 ∙ read-all _ (c .before .before .before .pre (c .before .if2 .taken)), ne-eqb _ _ (c .before .before .if1 .left), eq-eqb _ _ (c .before .if2 .taken))
+returns-2 c =
+    let last = c .before .if2 .taken in
+    let begun = c .before .before .before .pre last in
+    simp (c .read-extended .ensures .0 ∙ read-all _ begun, ne-eqb _ _ (c .before .before .if1 .left), eq-eqb _ _ last)
 
 returns-3 : tie.Need-returns-3
 returns-3 c = simp (ne-eqb _ _ (c .before .if1 .left), ne-eqb _ _ (c .if2 .left))

@@ -19,7 +19,9 @@ saying-requires c κs = search needs
 
 returns : tie.Need-returns
 unfolding readOf
-returns c = simp (c .saying .ensures, c .before .before .before .before .shift .ensures, eq-eqb _ _ (c .before .before .if1 .taken))
+returns c =
+    let first = c .before .before in
+    simp (c .saying .ensures, first .before .before .shift .ensures, eq-eqb _ _ (first .if1 .taken))
 
 hunts-requires : tie.Need-hunts-requires
 hunts-requires c κs = search needs
@@ -29,7 +31,16 @@ saying-requires-2 c κs = search needs
 
 returns-2 : tie.Need-returns-2
 unfolding readOf
-returns-2 c = simp (c .saying2 .ensures, c .before .hunts .ensures, c .before .before .before .before .before .before .shift .ensures, ne-eqb _ _ (c .before .before .before .before .if1 .left), eq-eqb _ _ (c .before .before .if2 .taken))
+returns-2 c =
+    let equal = c .before .before in
+    let second = equal .before .before in
+    simp (
+      c .saying2 .ensures,
+      c .before .hunts .ensures,
+      second .before .before .shift .ensures,
+      ne-eqb _ _ (second .if1 .left),
+      eq-eqb _ _ (equal .if2 .taken),
+    )
 
 mul-pair : tie.Need-mul-pair
 mul-pair c = search needs
@@ -47,7 +58,10 @@ pair-requires c κs =
 
 returns-3 : tie.Need-returns-3
 unfolding readOf
-returns-3 c = simp (c .pair .ensures, c .before .before .before .before .before .before .shift .ensures, ne-eqb _ _ (c .before .before .before .before .if1 .left), ne-eqb _ _ (c .before .before .if2 .left))
+returns-3 c =
+    let different = c .before .before in
+    let second = different .before .before in
+    simp (c .pair .ensures, second .before .before .shift .ensures, ne-eqb _ _ (second .if1 .left), ne-eqb _ _ (different .if2 .left))
 
 pub reads-spec : {M : Type 1} → statement M
 reads-spec =

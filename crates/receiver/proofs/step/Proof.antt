@@ -34,7 +34,10 @@ unfolding stepOf
 returns-2 c = let given = c .before .before .before .before .args in numbered (given .r) (given .half) (search ladder)
 
 takes-requires : tie.Need-takes-requires
-takes-requires c κs = (c .before .before .if1 .left, valid-parts (c .before .before .before .args .r) (sym (c .before .valid .ensures) ∙ not-false _ (c .if2 .left)) .0)
+takes-requires c κs =
+    let half = c .before .before in
+    let ok = sym (c .before .valid .ensures) ∙ not-false _ (c .if2 .left) in
+    (half .if1 .left, valid-parts (half .before .args .r) ok .0)
 
 returns-3 : tie.Need-returns-3
 unfolding stepOf

@@ -22,7 +22,9 @@ given-valid-requires c κs = search needs
 
 returns-3 : tie.Need-returns-3
 unfolding receiverOk
-returns-3 c = simp (le-leb _ _ (c .before .before .before .if1 .left), sym (c .before .before .pairs-fit .ensures) ∙ not-false _ (c .before .if2 .left), c .given-valid .ensures)
+returns-3 c =
+    let pairs = sym (c .before .before .pairs-fit .ensures) ∙ not-false _ (c .before .if2 .left) in
+    simp (le-leb _ _ (c .before .before .before .if1 .left), pairs, c .given-valid .ensures)
 
 pub valid-spec : {M : Type 1} → statement M
 valid-spec =
