@@ -8,16 +8,16 @@ use Prim.Native.Nat.{ℕ, _-_}
 use native.Mathlib.Omega.{arith}
 use native.Mathlib.Numerals.{add-one}
 use lib.ListN.{length, getD, replicate}
 use Rattle.station.specs.declared.Station.{Station}
 use Rattle.station.specs.declared.Held.{Held}
 use Rattle.station.specs.declared.Turn.{Turn}
 use Rattle.station.specs.Stations.{isDone}
 use Rattle.station.proofs.TurnLaws.{Ready, turn-empty, turn-done, turn-on}
-use Rattle.bench.proofs.StationsLaws.{zeros, ready-at, three-numbers}
-use Rattle.bench.specs.Benches.{turnAll}
-use Rattle.bench.proofs.Loops.{Moving, as-it-was, moving-none, moving-more, moving-on, moving-same, all-moved, all-marked}
-use Rattle.bench.proofs.move_all.Statement.{statement}
-use Rattle.bench.proofs.move_all.Tie as tie
+use Rattle.station.proofs.SlotLaws.{zeros, ready-at, three-numbers}
+use Rattle.station.specs.Benches.{turnAll}
+use Rattle.station.proofs.Loops.{Moving, as-it-was, moving-none, moving-more, moving-on, moving-same, all-moved, all-marked}
+use Rattle.station.proofs.bench.move_all.Statement.{statement}
+use Rattle.station.proofs.bench.move_all.Tie as tie
 
 abbrev Inv-loop : tie.InvT-loop
 Inv-loop n line draws sent after₀ done₀ i₀ after done i = Moving n line after₀ draws after done i
