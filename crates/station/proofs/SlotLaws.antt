@@ -16,7 +16,7 @@ use native.Mathlib.Omega.{arith}
 use lib.Bits.{bitOr}
 use lib.ListN.{length, take, getD, set, length-take, length-map, List·getD-map}
 use lib.Seq.{getD-take, length-take-le, getD-set-same, set-set, lt-length-set}
-use Rattle.ground.specs.Refusals.{reports, refuses, judged}
+use Rattle.ground.specs.Refusals.{Report, reports, refuses, judged}
 use Rattle.ground.proofs.Causes.{judged-map}
 use Rattle.message.proofs.Tables.{getD-any}
 use Rattle.station.specs.declared.Station.{Station}
@@ -146,5 +146,5 @@ pub bench-promise : {o : BenchTurn} (n : ℕ) (slots : List Station) (draws : Li
     → (o ≡ benchOf n slots draws) × (benchReport (o .answer) ≡ judged (benchCauses n slots draws) (reports (lineOf (take n slots) ∷ [])) refuses)
 unfolding benchOf turnAll
 bench-promise n slots draws e =
-    let report = λ (o : BenchTurn). benchReport (o .answer) in
+    let report : BenchTurn → Report ℕ = λ o. benchReport (o .answer) in
     (e, ap report e ∙ judged-map report _ _ (benchCauses n slots draws))

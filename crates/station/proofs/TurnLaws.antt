@@ -3,7 +3,8 @@
 --     sends-told, refused-told                   what the answer of `sends` says of the state
 --     Ready, turn-empty                          a judged station that has sent and heard; an empty one stays
 --     turn-aborts, turn-counts, turn-goes, turn-ends     what one half-cycle makes of one with a message, by the tests of `moves`
---     send-report, load-report, turn-report      what each answer reports, by its causes
+--     by-done, by-going                          the turn that a move's numbers stand for
+--     send-promise, load-promise, turn-promise   what each answer reports, by its causes
 use mathlib.Core.Path.{_≡_, refl, sym, ap, subst, _∙_}
 use mathlib.Core.Bool.{Bool, true, false, and-eq-true-iff}
 use mathlib.Core.List.{[], _∷_}
@@ -14,17 +15,19 @@ use borrow.Author.Tests.{leb-true, ltb-true, eq-eqb, ne-eqb, le-leb}
 use lib.Dec.{eqb, leb, ltb}
 use lib.ListN.{getD}
 use Rattle.ground.specs.Choice.{pick}
-use Rattle.ground.specs.Refusals.{reports, refuses, judged}
+use Rattle.ground.specs.Refusals.{Report, reports, refuses, judged}
 use Rattle.ground.specs.declared.Refusal.{Refusal}
 use Rattle.ground.specs.declared.Refusal.the-variants as refusal
 use Rattle.ground.proofs.Choices.{pick-both}
 use Rattle.ground.proofs.Causes.{judged-map}
 use Rattle.message.specs.declared.Message.{Message}
 use Rattle.burst.specs.Frames.{burstOf, burstLength}
-use Rattle.station.specs.Stations.{emptyStation, loaded, drawOk, heldOk, stationOk, loadOf, loadCauses, loadReport, heldSends, sendsOf, sendOf, sendCauses, sendReport, heldMoves, turnCauses, turnOf, isDone, turnReport}
+use Rattle.station.specs.Stations.{emptyStation, loaded, drawOk, heldOk, stationOk, loadOf, loadCauses, loadReport, heldSends, sendsOf, sendOf, sendCauses, sendReport, heldMoves, turnCauses, turnOf, isDone, turnReport, turnBy}
 use Rattle.station.specs.declared.Held.{Held}
 use Rattle.station.specs.declared.Held.the-variants.{Empty, Holds}
 use Rattle.station.specs.declared.Loading.{Loading}
+use Rattle.station.specs.declared.Move.{Move}
+use Rattle.station.specs.declared.SendAnswer.{SendAnswer}
 use Rattle.station.specs.declared.SendAnswer.the-variants as send
 use Rattle.station.specs.declared.Station.{Station}
 use Rattle.station.specs.declared.Turn.{Turn}
@@ -135,15 +138,28 @@ module _ {s : Station} {sent heard draw : ℕ} (r : Ready s sent heard draw) whe
           turn-holds
           ∙ rw (level l, eq-eqb (getD (burstOf m) (s .place) 0) heard (sends-burst l ∙ same), eq-eqb (s .place + 1) (burstLength m) last)
 
--- ---- what each answer reports
+-- ---- the turn that a move's numbers stand for
 
-pub send-report : (s : Station) → sendReport (sendOf s) ≡ judged (sendCauses s) (reports (sendsOf s ∷ [])) refuses
+module _ {t : Turn} (h : Held) (v : Move) (by : t ≡ turnBy h v) where
+  pub by-done : v .done ≡ true → t ≡ record { answer = turn.Done; next = emptyStation }
+  by-done d = by ∙ rw d
+
+  pub by-going : v .done ≡ false → t ≡ going (record { held = h; wait = v .wait; count = v .count; place = v .place })
+  by-going d = by ∙ rw d
+
+-- ---- the promises of each routine, from its answer
+
+pub send-promise : {o : SendAnswer} (s : Station) → o ≡ sendOf s
+    → (o ≡ sendOf s) × (sendReport o ≡ judged (sendCauses s) (reports (sendsOf s ∷ [])) refuses)
 unfolding sendOf
-send-report s = judged-map sendReport _ _ (sendCauses s)
+send-promise s e = (e, ap sendReport e ∙ judged-map sendReport _ _ (sendCauses s))
 
-pub load-report : (s : Station) (m : Message) (draw : ℕ) → loadReport (loadOf s m draw .answer) ≡ judged (loadCauses s m draw) (reports []) refuses
+pub load-promise : {o : Loading} (s : Station) (m : Message) (draw : ℕ) → o ≡ loadOf s m draw
+    → (o ≡ loadOf s m draw) × (loadReport (o .answer) ≡ judged (loadCauses s m draw) (reports []) refuses)
 unfolding loadOf
-load-report s m draw = judged-map (λ (o : Loading). loadReport (o .answer)) _ _ (loadCauses s m draw)
+load-promise s m draw e =
+    let report : Loading → Report ℕ = λ o. loadReport (o .answer) in
+    (e, ap report e ∙ judged-map report _ _ (loadCauses s m draw))
 
 -- a station that moves refuses nothing
 abbrev Moved : Turn → Type 0
@@ -156,9 +172,12 @@ held-reports (Holds m) s heard draw =
     (pick-both Moved (eqb (getD (burstOf m) (s .place) 0) heard) _ _ (pick-both Moved (eqb (s .place + 1) (burstLength m)) _ _ refl refl) refl)
     refl
 
-pub turn-report : (s : Station) (heard draw : ℕ)
-    → turnReport (turnOf s heard draw .answer) ≡ judged (turnCauses s heard draw) (reports (isDone (heldMoves (s .held) s heard draw .answer) ∷ [])) refuses
+pub turn-promise : {o : Turn} (s : Station) (heard draw : ℕ) → o ≡ turnOf s heard draw
+    → (o ≡ turnOf s heard draw)
+    × (turnReport (o .answer) ≡ judged (turnCauses s heard draw) (reports (isDone (heldMoves (s .held) s heard draw .answer) ∷ [])) refuses)
 unfolding turnOf
-turn-report s heard draw =
-    judged-map (λ (o : Turn). turnReport (o .answer)) _ _ (turnCauses s heard draw)
-    ∙ ap (λ x. judged (turnCauses s heard draw) x refuses) (held-reports (s .held) s heard draw)
+turn-promise s heard draw e =
+    let report : Turn → Report Bool = λ o. turnReport (o .answer) in
+    (e, ap report e
+    ∙ judged-map report _ _ (turnCauses s heard draw)
+    ∙ ap (λ (x : Report Bool). judged (turnCauses s heard draw) x refuses) (held-reports (s .held) s heard draw))

@@ -1,17 +1,18 @@
 -- `advance` meets its contract: the tests are those of `turnOf`, in its order, and what is left is the judged station's move.
-use mathlib.Core.Path.{sym, ap, _∙_}
-use Rattle.station.specs.Stations.{turnNumber, turnOf}
-use Rattle.station.specs.declared.Turn.{Turn}
+use mathlib.Core.Path.{sym, _∙_}
+use Rattle.station.specs.Stations.{turnOf}
 use Rattle.ground.proofs.Causes.{ladder, fine}
 use Rattle.station.proofs.SendLaws.{fault-told}
-use Rattle.station.proofs.TurnLaws.{sends-told, refused-told, turn-number}
+use Rattle.station.proofs.TurnLaws.{sends-told, refused-told, turn-promise}
 use borrow.Author.Needs.{needs}
 use Rattle.station.proofs.advance.Statement.{statement}
 use Rattle.station.proofs.advance.Tie as tie
 
 returns : tie.Need-returns
 unfolding turnOf
-returns c = (search ladder, search ladder)
+returns c =
+    let a = c .before .args in
+    turn-promise (a .s) (a .heard) (a .draw) (search ladder)
 
 sends-requires : tie.Need-sends-requires
 sends-requires c κs = search needs
@@ -28,8 +29,9 @@ draw-ok-requires c κs = search needs
 returns-2 : tie.Need-returns-2
 unfolding turnOf
 returns-2 c =
+    let a = c .before .before .before .before .before .before .before .args in
     let told = sends-told _ _ (sym (c .before .before .before .before .before .sends .ensures .0) ∙ c .before .before .before .sent .given .1) in
-    (search ladder depth 8, search ladder depth 8)
+    turn-promise (a .s) (a .heard) (a .draw) (search ladder depth 8)
 
 returns-3 : tie.Need-returns-3
 unfolding turnOf
@@ -37,7 +39,7 @@ returns-3 c =
     let a = c .before .before .before .before .before .before .before .before .args in
     let told = sends-told _ _ (sym (c .before .before .before .before .before .before .sends .ensures .0) ∙ c .before .before .before .before .sent .given .1) in
     let wrong = fault-told (a .s) (a .heard) (told .1) (c .if3 .taken) in
-    (search ladder depth 8, search ladder depth 8)
+    turn-promise (a .s) (a .heard) (a .draw) (search ladder depth 8)
 
 moved-requires : tie.Need-moved-requires
 moved-requires c κs =
@@ -47,13 +49,14 @@ moved-requires c κs =
 returns-4 : tie.Need-returns-4
 unfolding turnOf
 returns-4 c =
+    let a = c .before .before .before .before .args in
     let bad = refused-told _ _ (sym (c .before .before .sends .ensures .0) ∙ c .enum-told .given .1) in
-    (search ladder depth 8, search ladder depth 8)
+    turn-promise (a .s) (a .heard) (a .draw) (search ladder depth 8)
 
 returns-5 : tie.Need-returns-5
 returns-5 c =
     let a = c .before .before .before .before .before .before .before .before .before .args in
-    (c .moved .ensures, ap (λ (o : Turn). turnNumber (o .answer)) (c .moved .ensures) ∙ turn-number (a .s) (a .heard) (a .draw))
+    turn-promise (a .s) (a .heard) (a .draw) (c .moved .ensures)
 
 pub advance-spec : {M : Type 1} → statement M
 advance-spec =

@@ -12,7 +12,7 @@ use Rattle.station.specs.declared.Station.{Station}
 use Rattle.station.specs.declared.Held.{Held}
 use Rattle.station.specs.declared.Turn.{Turn}
 use Rattle.station.specs.Stations.{isDone}
-use Rattle.station.proofs.TurnLaws.{Ready, turn-empty, turn-done, turn-on}
+use Rattle.station.proofs.TurnLaws.{Ready, turn-empty, by-done, by-going}
 use Rattle.station.proofs.SlotLaws.{zeros, ready-at, three-numbers}
 use Rattle.station.specs.Benches.{turnAll}
 use Rattle.station.proofs.Loops.{Moving, as-it-was, moving-none, moving-more, moving-on, moving-same, all-moved, all-marked}
@@ -49,8 +49,20 @@ array-read-moves c = search needs
 array-read-moves-2 : tie.Need-array-read-moves-2 Inv-loop μ-loop
 array-read-moves-2 c = search needs
 
+-- the next station may be moved
+ready : (c : tie.In-loop Inv-loop μ-loop) → Ready (getD (c .before .loop .after) (c .before .loop .i) zeros) (getD (c .before .before .args .t5) (c .before .loop .i) 0) (c .before .before .args .line) (getD (c .before .before .args .t3) (c .before .loop .i) 0)
+ready c =
+    let a = c .before .before .args in
+    let p = c .before .before .pre in
+    let i = c .before .loop .i in
+    subst (λ (s : Station). Ready s (getD (a .t5) i 0) (a .line) (getD (a .t3) i 0))
+    (sym (as-it-was (p .0) (p .1 .0) (c .loop-test .taken) zeros (c .before .loop .inv)))
+    (ready-at (a .n) (a .slots) (a .t3) (a .t5) (a .line) (p .0) (p .1 .0) (p .1 .1 .0) (p .1 .1 .1 .0) (p .1 .1 .1 .1 .0) (p .1 .1 .1 .1 .1) i (c .loop-test .taken) zeros)
+
 moves-requires : tie.Need-moves-requires Inv-loop μ-loop
-moves-requires c κs = search needs
+moves-requires c κs =
+    let r = ready (c .before .before .before .before) in
+    (c .before .held .given .1, ((r .ok, r .drawn), (r .is, (r .kept, r .half))))
 
 empty-requires : tie.Need-empty-requires Inv-loop μ-loop
 empty-requires c κs = search needs
@@ -88,16 +100,6 @@ add-i c = search needs
 loop-less : tie.Need-loop-less Inv-loop μ-loop
 loop-less c = search needs
 
--- the next station may be moved
-ready : (c : tie.In-loop Inv-loop μ-loop) → Ready (getD (c .before .loop .after) (c .before .loop .i) zeros) (getD (c .before .before .args .t5) (c .before .loop .i) 0) (c .before .before .args .line) (getD (c .before .before .args .t3) (c .before .loop .i) 0)
-ready c =
-    let a = c .before .before .args in
-    let p = c .before .before .pre in
-    let i = c .before .loop .i in
-    subst (λ (s : Station). Ready s (getD (a .t5) i 0) (a .line) (getD (a .t3) i 0))
-    (sym (as-it-was (p .0) (p .1 .0) (c .loop-test .taken) zeros (c .before .loop .inv)))
-    (ready-at (a .n) (a .slots) (a .t3) (a .t5) (a .line) (p .0) (p .1 .0) (p .1 .1 .0) (p .1 .1 .1 .0) (p .1 .1 .1 .1 .0) (p .1 .1 .1 .1 .1) i (c .loop-test .taken) zeros)
-
 loop-again : tie.Need-loop-again Inv-loop μ-loop
 loop-again c =
     let a = c .before .before .before .before .args in
@@ -112,10 +114,10 @@ loop-again c =
     (λ v.
     ⊎-elim
     (λ w.
-    let turn = turn-done r (w .1 .given .1) (w .3 .ensures) (w .4 .taken) in
+    let turn = by-done _ (w .3 .result) (w .3 .ensures) (w .4 .taken) in
     rw (w .6, w .7) (moving-more (p .0) (p .1 .0) (c .before .before .loop-test .taken) zeros (l .inv) (w .5 .result) true (ap (λ (t : Turn). t .next) turn ∙ sym (w .5 .ensures)) (ap (λ (t : Turn). isDone (t .answer)) turn)))
     (λ w.
-    let turn = turn-on r (w .1 .given .1) (w .3 .ensures) (w .4 .left) in
+    let turn = by-going _ (w .3 .result) (w .3 .ensures) (w .4 .left) in
     let v = w .3 .result in
     let numbers : Held → Station = λ h. record { held = h; wait = v .wait; count = v .count; place = v .place } in
     let kept = ap numbers (sym (w .1 .given .1)) in
