@@ -4,9 +4,7 @@
 --     pair-at       the half-cycle at a place among the pairs
 --     start-one, start-zero, frame-pair     the half-cycle at a place of a frame
 --     burst-first, burst-second     the half-cycle at a place of either copy is the frame's
---     bits-told, no-bits     what `word_of` answers for a valid message
-use mathlib.Core.Path.{_≡_, refl, sym, ap, _∙_}
-use mathlib.Core.Bool.{true}
+use mathlib.Core.Path.{_≡_, refl, ap, _∙_}
 use mathlib.Core.List.{List, [], _∷_, _++_}
 use Prim.Native.Nat.{ℕ, zero, suc, _+_, _-_, _/_, _%_, _^_, _≤_, _<_}
 use native.Mathlib.Nat.{not-suc-le-zero, le-of-suc-le-suc}
@@ -15,13 +13,7 @@ use lib.Dec.{eqb}
 use lib.ListN.{length, getD, List·getD-append}
 use lib.Seq.{getD-append-add}
 use Rattle.ground.specs.Choice.{pick}
-use Rattle.ground.specs.Refusals.{judged}
-use Rattle.ground.specs.declared.Refusal.{Refusal}
-use Rattle.message.specs.Messages.{messageOk}
-use Rattle.message.specs.Words.{wordIn, wordAnswer}
 use Rattle.message.specs.declared.Message.{Message}
-use Rattle.message.specs.declared.word.Word.{Word}
-use Rattle.message.specs.declared.word.WordAnswer.the-variants.{Word as Bits, Refused as NoBits}
 use Rattle.burst.specs.Frames.{bitsOf, pairsOf, frameOf, frameLength, burstOf}
 use Rattle.burst.proofs.FrameLaws.{bits-length, frame-length}
 
@@ -75,17 +67,3 @@ unfolding burstOf
 burst-second m p h =
     let e : p ≡ length (frameOf m) + (p - frameLength m) = omega (arith, frame-length m) in
     ap (λ (n : ℕ). getD (frameOf m ++ frameOf m) n 0) e ∙ getD-append-add (frameOf m) (frameOf m) (p - frameLength m) 0
-
--- ---- the bits of a valid message
-
-module _ (m : Message) (valid : messageOk m ≡ true) where
-  answers : wordAnswer m ≡ Bits (wordIn m)
-  unfolding wordAnswer judged
-  answers = rw valid
-
-  pub bits-told : (w : Word) → wordAnswer m ≡ Bits w → wordIn m ≡ w
-  bits-told w e = let both : Bits (wordIn m) ≡ Bits w = sym answers ∙ e in cc
-
-  -- so that anything follows where it is refused
-  pub no-bits : (why : Refusal) → wordAnswer m ≡ NoBits why → (a b : ℕ) → a ≡ b
-  no-bits why e a b = let both : Bits (wordIn m) ≡ NoBits why = sym answers ∙ e in cc

@@ -1,5 +1,6 @@
 -- `half_at` meets its contract: a valid message has bits, and they make its frame; a place past the first frame is that of the second.
 use mathlib.Core.Path.{_≡_, sym, ap, _∙_}
+use mathlib.Core.Bool.{false≢true}
 use mathlib.Core.Logic.{⊎-elim}
 use mathlib.Core.List.{_∷_}
 use Prim.Native.Nat.{ℕ, _+_, _-_, _≤_}
@@ -8,8 +9,8 @@ use lib.ListN.{getD}
 use Rattle.message.specs.Words.{bitCount}
 use Rattle.message.specs.declared.word.Word.{Word}
 use Rattle.burst.specs.Frames.{bitsOf, pairsOf, frameOf, frameLength}
-use Rattle.burst.proofs.Writing.{count-at-most, frame-of-bits}
-use Rattle.station.proofs.HalfAt.{burst-first, burst-second, bits-told, no-bits}
+use Rattle.burst.proofs.Writing.{count-at-most, frame-of-bits, has-bits, no-bits}
+use Rattle.station.proofs.HalfAt.{burst-first, burst-second}
 use borrow.Author.Needs.{needs}
 use Rattle.station.proofs.half_at.Statement.{statement}
 use Rattle.station.proofs.half_at.Tie as tie
@@ -30,8 +31,8 @@ counted : (c : tie.After-struct-known)
 counted c =
     let start = c .before .before .before .before .before in
     let m = start .args .m in
-    let told = bits-told m (start .pre .0) _ (sym (c .before .before .before .before .word-of .ensures .0) ∙ c .before .before .word .given .1) in
-    let count : bitCount m ≡ c .before .before .word .given .0 .0 .count = ap (λ (w : Word). w .count) told in
+    let told = has-bits m _ (sym (c .before .before .before .before .word-of .ensures .0) ∙ c .before .before .word .given .1) .1 in
+    let count : c .before .before .word .given .0 .0 .count ≡ bitCount m = ap (λ (w : Word). w .count) told in
     (omega (arith, count-at-most m), omega (arith, frame-of-bits m))
 
 add-frame : tie.Need-add-frame
@@ -50,7 +51,8 @@ frame-half-requires c κs =
 returns : tie.Need-returns
 returns c =
     let start = c .before .before .before in
-    no-bits (start .args .m) (start .pre .0) _ (sym (c .before .before .word-of .ensures .0) ∙ c .enum-told .given .1) _ _
+    let bad = no-bits (start .args .m) _ (sym (c .before .before .word-of .ensures .0) ∙ c .enum-told .given .1) .0 in
+    absurd (false≢true (sym bad ∙ start .pre .0))
 
 returns-2 : tie.Need-returns-2
 unfolding frameOf
@@ -60,9 +62,9 @@ returns-2 c =
     let place = start .args .place in
     let at = c .before .if1 .at in
     let long = counted (c .before .before) .1 in
-    let told = bits-told m (start .pre .0) _ (sym (c .before .before .before .before .before .before .word-of .ensures .0) ∙ c .before .before .before .before .word .given .1) in
+    let told = has-bits m _ (sym (c .before .before .before .before .before .before .word-of .ensures .0) ∙ c .before .before .before .before .word .given .1) .1 in
     let frame : c .frame-half .result ≡ getD (frameOf m) at 0 =
-    c .frame-half .ensures ∙ ap (λ (w : Word). getD (1 ∷ 1 ∷ 1 ∷ 0 ∷ pairsOf (bitsOf (w .count) (w .bits))) at 0) (sym told) in
+    c .frame-half .ensures ∙ ap (λ (w : Word). getD (1 ∷ 1 ∷ 1 ∷ 0 ∷ pairsOf (bitsOf (w .count) (w .bits))) at 0) told in
     let way : (p : ℕ) → at ≡ p → getD (frameOf m) at 0 ≡ getD (frameOf m) p 0 = λ p e. ap (λ (n : ℕ). getD (frameOf m) n 0) e in
     frame
     ∙ ⊎-elim
