@@ -6,7 +6,7 @@ use mathlib.Core.List.{List, [], _∷_, _++_, map, flatMap}
 use lib.Dec.{eqb, leb}
 use lib.ListN.{length, take, drop, replicate}
 use Rattle.ground.specs.Choice.{pick}
-use Rattle.ground.specs.Refusals.{refusalNumber, Cause, unless, judged, numberGiven, lowest}
+use Rattle.ground.specs.Refusals.{refusalNumber, Report, reports, refuses, Cause, unless, judged, numberGiven, lowest}
 use Rattle.ground.specs.declared.CountAnswer.{CountAnswer}
 use Rattle.ground.specs.declared.CountAnswer.the-variants.{Done, Refused}
 use Rattle.ground.specs.declared.Refusal.the-variants as refusal
@@ -128,6 +128,10 @@ turnsIn l = turnsOf (length (l .loads)) (slotsIn l) (l .draws) (length (l .lines
 -- how many calls were not refused
 unfoldable pub runAnswer : Lent → CountAnswer
 runAnswer l = judged (runCauses l) (Done (length (momentIn l .past))) Refused
+
+-- 01's number, and that count
+abbrev pub runReport : Lent → Report ℕ
+runReport l = judged (runCauses l) (reports (length (momentIn l .past) ∷ [])) refuses
 
 -- the lines and the marks at exit; bytes of marks beyond stay
 unfoldable pub linesAfter : Lent → List ℕ

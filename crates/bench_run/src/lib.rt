@@ -13,15 +13,15 @@ use station::load;
 use wire::MessageRead;
 use wire::message_from;
 ghost use mathlib.Core.Path.{_≡_};
-ghost use mathlib.Core.List.{_∷_, [], _++_, flatMap};
+ghost use mathlib.Core.List.{_++_, flatMap};
 ghost use Prim.Native.Nat.{_+_, _*_, _/_, _≤_};
 ghost use lib.ListN.{length, take, drop};
 ghost use Rattle.ground.specs.Choice.{pick};
-ghost use Rattle.ground.specs.Refusals.{judged, reports, refuses, refusalNumber, countReport};
+ghost use Rattle.ground.specs.Refusals.{countReport};
 ghost use Rattle.station.specs.Benches.{drawsOk};
 ghost use Rattle.wire.specs.Messages.{messageIn};
 ghost use Rattle.bench_run.specs.BenchRuns.{saysMessage, allSay, loadedBy, slotsFrom, momentAfter, turnsOf, lineByte, lineBytes, markBytes, counts, maskOf};
-ghost use Rattle.bench_run.specs.BenchRuns.{lent, momentIn, runCauses, runAnswer, linesAfter, marksAfter};
+ghost use Rattle.bench_run.specs.BenchRuns.{lent, runAnswer, runReport, linesAfter, marksAfter};
 
 // The message that stands at a place.
 fn message_at(messages: &[u8], at: usize) -> MessageRead
@@ -207,7 +207,7 @@ pub fn run(
     marks: &mut [u8],
 ) -> CountAnswer
     ensures answer { λ r. ⌜ r ≡ runAnswer (lent (now (messages .entry)) (now (loads .entry)) (now (draws .entry)) (now (lines .entry)) (now (marks .entry))) ⌝ }
-    ensures report { λ r. ⌜ countReport r ≡ judged (runCauses (lent (now (messages .entry)) (now (loads .entry)) (now (draws .entry)) (now (lines .entry)) (now (marks .entry)))) (reports (length (momentIn (lent (now (messages .entry)) (now (loads .entry)) (now (draws .entry)) (now (lines .entry)) (now (marks .entry))) .past) ∷ [])) refuses ⌝ }
+    ensures report { λ r. ⌜ countReport r ≡ runReport (lent (now (messages .entry)) (now (loads .entry)) (now (draws .entry)) (now (lines .entry)) (now (marks .entry))) ⌝ }
     ensures lines { λ _. ⌜ now (lines .exit) ≡ linesAfter (lent (now (messages .entry)) (now (loads .entry)) (now (draws .entry)) (now (lines .entry)) (now (marks .entry))) ⌝ }
     ensures marks { λ _. ⌜ now (marks .exit) ≡ marksAfter (lent (now (messages .entry)) (now (loads .entry)) (now (draws .entry)) (now (lines .entry)) (now (marks .entry))) ⌝ }
 {
