@@ -1,25 +1,29 @@
 -- Laws of calls one after the other.
 --
---     mask-below, mask-cons      the number of which stations are DONE
---     bench-takes                a call goes by its first n draws
---     Going, going-first, going-next, going-last     where a run of calls stands
---     draws-left                 the next call's draws are there
-use mathlib.Core.Path.{_≡_, refl, sym, ap, ap₂, _∙_}
+--     mask-below, mask-cons               the number of which stations are DONE
+--     bench-takes                         a call goes by its first n draws
+--     Going, going-first, going-next      where a run of calls stands: lines and marks so far, the stations, the count
+--     draws-left, going-last              the next call's draws are there; what all calls leave
+use mathlib.Core.Path.{_≡_, refl, sym, ap, ap₂, subst, _∙_}
 use mathlib.Core.Bool.{Bool, true, false}
-use mathlib.Core.List.{List, [], _∷_, _++_, map, flatMap}
+use mathlib.Core.List.{List, [], _∷_, _++_, map, map-append, flatMap, append-assoc, append-nil}
 use Prim.Native.Nat.{ℕ, zero, suc, _+_, _-_, _*_, _/_, _%_, _^_, _≤_, _<_}
-use native.Mathlib.Nat.{pow-suc, le-trans, add-zero, add-assoc, mul-suc}
+use native.Mathlib.Nat.{pow-suc, le-refl, le-trans, add-zero, mul-suc, mul-zero, mul-le-mul-left}
 use native.Mathlib.Numerals.{add-one}
 use native.Mathlib.Omega.{arith}
 use lib.Pow.{pow-mono}
-use lib.ListN.{length, getD, set, take, drop, length-drop, length-set, length-map}
-use lib.Seq.{sets, sets-eq, drop-cons, drop-drop}
+use lib.ListN.{length, getD, set, take, drop, length-append, length-drop, length-set, length-map, drop-of-length-le}
+use lib.Seq.{drop-cons, set-at, append-snoc, take-take}
 use Rattle.ground.specs.Choice.{pick}
+use Rattle.station.specs.Benches.{turnAll, benchOf}
 use Rattle.station.specs.declared.Station.{Station}
-use Rattle.bench.specs.Benches.{turnAll, benchOf}
-use Rattle.bench.specs.declared.BenchTurn.{BenchTurn}
-use Rattle.wire.proofs.RunLaws.{sets-whole}
-use Rattle.bench_run.specs.BenchRuns.{callsOf, lineByte, counts, counted, maskOf, markBytes, Called}
+use Rattle.station.specs.declared.bench.BenchAnswer.{BenchAnswer}
+use Rattle.station.specs.declared.bench.BenchAnswer.the-variants.{Line, Refused}
+use Rattle.station.specs.declared.bench.BenchTurn.{BenchTurn}
+use Rattle.bench_run.specs.Calls.{Moment, hears, call, run}
+use Rattle.bench_run.specs.BenchRuns.{drawsOf, callsOf, momentAfter, turnsOf, lineByte, lineBytes, counts, maskOf, markBytes}
+
+-- ---- the mask
 
 at-most-one : (b : Bool) → pick {A = ℕ} b 1 0 ≤ 1
 at-most-one true = omega arith
@@ -42,118 +46,185 @@ mask-cons bs left mask bit d some within long e one =
     let low : maskOf (drop left bs) < 2 ^ 15 = le-trans (mask-below (drop left bs)) (pow-mono short) in
     omega (arith, value, low)
 
--- ---- one call after another
+-- ---- one call
 
 -- only the first n draws count
 pub bench-takes : (n : ℕ) (slots : List Station) (d e : List ℕ) → take n d ≡ take n e → benchOf n slots d ≡ benchOf n slots e
 unfolding benchOf turnAll
 bench-takes n slots d e same = rw same
 
-calls-length : (k n : ℕ) (slots : List Station) (draws : List ℕ) → length (callsOf k n slots draws) ≡ k
-unfolding callsOf
-calls-length zero n slots draws = refl
-calls-length (suc k) n slots draws = ap suc (calls-length k n (benchOf n slots draws .slots) (drop n draws))
+module _ (n : ℕ) (now : Moment) (draws : List ℕ) where
+  -- a call leaves the slots of its turn,
+  call-slots : call n now draws .slots ≡ benchOf n (now .slots) draws .slots
+  unfolding call
+  call-slots = go (benchOf n (now .slots) draws) (benchOf n (now .slots) draws .answer)
+    where
+      go : (o : BenchTurn) (a : BenchAnswer) → hears now o a .slots ≡ o .slots
+      go o (Line h) = refl
+      go o (Refused why) = refl
+
+  -- and one answer more where it was not refused
+  call-counts : length (call n now draws .past) ≡ length (now .past) + counts (benchOf n (now .slots) draws .answer)
+  unfolding call
+  call-counts = go (benchOf n (now .slots) draws) (benchOf n (now .slots) draws .answer)
+    where
+      go : (o : BenchTurn) (a : BenchAnswer) → length (hears now o a .past) ≡ length (now .past) + counts a
+      go o (Line h) = sym (add-one (length (now .past)))
+      go o (Refused why) = sym (add-zero (length (now .past)))
+
+-- ---- lists that grow at their end
+
+-- one byte more behind those that were put
+put-next : (xs l : List ℕ) (j x : ℕ) → length xs ≡ j → j < length l → set (xs ++ drop j l) j x ≡ xs ++ (x ∷ []) ++ drop (j + 1) l
+put-next xs l j x e h =
+    ap (λ (t : List ℕ). set (xs ++ t) j x) (drop-cons l j 0 h)
+    ∙ set-at xs (getD l j 0) (drop (suc j) l) x j e
+    ∙ sym (append-snoc xs x (drop (suc j) l))
+    ∙ ap (λ (k : ℕ). xs ++ (x ∷ []) ++ drop k l) (sym (add-one j))
+
+flat-append : (os ps : List BenchTurn) → flatMap markBytes (os ++ ps) ≡ flatMap markBytes os ++ flatMap markBytes ps
+unfolding flatMap
+flat-append [] ps = refl
+flat-append (o ∷ os) ps = ap (λ (l : List ℕ). markBytes o ++ l) (flat-append os ps)
 
 marks-length : (os : List BenchTurn) → length (flatMap markBytes os) ≡ 2 * length os
 unfolding flatMap
 marks-length [] = refl
 marks-length (o ∷ os) = omega (arith, marks-length os)
 
-abbrev lineOfTurn : BenchTurn → ℕ
-lineOfTurn o = lineByte (o .answer)
+turns-length : (n : ℕ) (slots : List Station) (draws : List ℕ) (k : ℕ) → length (turnsOf n slots draws k) ≡ k
+unfolding turnsOf
+turns-length n slots draws zero = refl
+turns-length n slots draws (suc k) =
+    length-append (turnsOf n slots draws k) _ ∙ add-one (length (turnsOf n slots draws k)) ∙ ap suc (turns-length n slots draws k)
 
--- where a run of calls stands: what is left would bring lines, marks and count to where all calls bring them from the start
+-- ---- calls one after the other
+
+-- after j calls
 pub record Going (n : ℕ) (slots : List Station) (draws lines marks linesNow marksNow : List ℕ) (current : List Station) (count at j : ℕ) : Type 0 where
+  pub most : n ≤ 16
+  pub whole : length draws ≡ n * length lines
+  pub room : 2 * length lines ≤ length marks
   pub within : j ≤ length lines
   pub lines-long : length linesNow ≡ length lines
   pub marks-long : length marksNow ≡ length marks
-  pub left : at + n * (length lines - j) ≡ length draws
   pub few : count ≤ j
-  pub counting : count + counted (callsOf (length lines - j) n current (drop at draws)) ≡ counted (callsOf (length lines) n slots draws)
-  pub lining : sets linesNow j (map lineOfTurn (callsOf (length lines - j) n current (drop at draws)))
-      ≡ sets lines 0 (map lineOfTurn (callsOf (length lines) n slots draws))
-  pub marking : sets marksNow (2 * j) (flatMap markBytes (callsOf (length lines - j) n current (drop at draws)))
-      ≡ sets marks 0 (flatMap markBytes (callsOf (length lines) n slots draws))
+  pub place : at ≡ n * j
+  pub standing : current ≡ momentAfter n slots draws j .slots
+  pub counting : count ≡ length (momentAfter n slots draws j .past)
+  pub lining : linesNow ≡ lineBytes (turnsOf n slots draws j) ++ drop j lines
+  pub marking : marksNow ≡ flatMap markBytes (turnsOf n slots draws j) ++ drop (2 * j) marks
 
-module _ (n : ℕ) (slots : List Station) (draws lines marks : List ℕ) where
-  pub going-first : length draws ≡ n * length lines → Going n slots draws lines marks lines marks slots 0 0 0
-  going-first whole =
-      let all : length lines - 0 ≡ length lines = omega arith in
-      record {
-        within = omega arith;
-        lines-long = refl;
-        marks-long = refl;
-        left = rw all (omega (arith, whole));
-        few = omega arith;
-        counting = rw all (omega arith);
-        lining = rw all;
-        marking = rw all;
-      }
+pub going-first : (n : ℕ) (slots : List Station) (draws lines marks : List ℕ) → n ≤ 16 → length draws ≡ n * length lines → 2 * length lines ≤ length marks
+    → Going n slots draws lines marks lines marks slots 0 0 0
+unfolding run callsOf turnsOf flatMap
+going-first n slots draws lines marks most whole room = record {
+  most = most;
+  whole = whole;
+  room = room;
+  within = omega arith;
+  lines-long = refl;
+  marks-long = refl;
+  few = omega arith;
+  place = sym (mul-zero n);
+  standing = refl;
+  counting = refl;
+  lining = refl;
+  marking = refl;
+}
 
-  module _ (linesNow marksNow : List ℕ) (current : List Station) (count at j : ℕ) (g : Going n slots draws lines marks linesNow marksNow current count at j) where
-    pub going-last : length lines ≤ j → 2 * length lines ≤ length marks → Called n slots draws lines marks count linesNow marksNow
-    unfolding callsOf counted flatMap
-    going-last end room =
-        let none : 0 ≡ length lines - j = omega arith in
-        let turns = callsOf (length lines) n slots draws in
-        let many = calls-length (length lines) n slots draws in
-        let long = marks-length turns in
-        let bytes : length (map lineOfTurn turns) ≡ length lines = length-map turns lineOfTurn ∙ many in
-        let past : 0 + length (flatMap markBytes turns) ≡ 2 * length lines = omega arith in
-        record {
-          count-of = sym (add-zero count) ∙ ap (λ (k : ℕ). count + counted (callsOf k n current (drop at draws))) none ∙ g .counting;
-          lines-of =
-              ap (λ (k : ℕ). sets linesNow j (map lineOfTurn (callsOf k n current (drop at draws)))) none
-              ∙ g .lining
-              ∙ sets-whole (map lineOfTurn turns) lines bytes;
-          marks-of =
-              ap (λ (k : ℕ). sets marksNow (2 * j) (flatMap markBytes (callsOf k n current (drop at draws)))) none
-              ∙ g .marking
-              ∙ sets-eq (flatMap markBytes turns) marks 0 (omega arith)
-              ∙ ap (λ (k : ℕ). flatMap markBytes turns ++ drop k marks) past;
-        }
+module _ {n : ℕ} {slots : List Station} {draws lines marks linesNow marksNow : List ℕ} {current : List Station} {count at j : ℕ}
+    (g : Going n slots draws lines marks linesNow marksNow current count at j) where
+  abbrev turns : List BenchTurn
+  turns = turnsOf n slots draws j
 
-    module _ (more : j < length lines) where
-      one-more : length lines - j ≡ suc (length lines - (j + 1))
-      one-more = omega arith
+  pub going-last : length lines ≤ j
+      → (count ≡ length (momentAfter n slots draws (length lines) .past))
+      × ((linesNow ≡ lineBytes (turnsOf n slots draws (length lines)))
+      × (marksNow ≡ flatMap markBytes (turnsOf n slots draws (length lines)) ++ drop (2 * length lines) marks))
+  going-last end =
+      let all : j ≡ length lines = omega (arith, g .within) in (
+        g .counting ∙ ap (λ (k : ℕ). length (momentAfter n slots draws k .past)) all,
+        (
+          g .lining
+          ∙ ap (λ (l : List ℕ). lineBytes turns ++ l) (drop-of-length-le lines end)
+          ∙ append-nil (lineBytes turns)
+          ∙ ap (λ (k : ℕ). lineBytes (turnsOf n slots draws k)) all,
+          g .marking ∙ ap (λ (k : ℕ). flatMap markBytes (turnsOf n slots draws k) ++ drop (2 * k) marks) all,
+        ),
+      )
 
-      -- the next n draws are there
-      pub draws-left : at + n + n * (length lines - (j + 1)) ≡ length draws
-      draws-left =
-          let e : n * (length lines - j) ≡ n * (length lines - (j + 1)) + n = ap (λ (k : ℕ). n * k) one-more ∙ mul-suc n (length lines - (j + 1)) in
-          omega (arith, g .left)
+  module _ (more : j < length lines) where
+    -- the next call's draws are there
+    pub draws-left : at + n ≤ length draws
+    draws-left =
+        let next : n * suc j ≡ n * j + n = mul-suc n j in
+        let upto : n * suc j ≤ n * length lines = mul-le-mul-left n more in
+        omega (arith, g .place, g .whole)
 
-      module _ (o : BenchTurn) (own : List ℕ) (is : o ≡ benchOf n current own) (same : take n own ≡ take n (drop at draws)) where
-        o-is : benchOf n current (drop at draws) ≡ o
-        o-is = sym (is ∙ bench-takes n current own (drop at draws) same)
+    module _ (o : BenchTurn) (own : List ℕ) (is : o ≡ benchOf n current own) (same : take n own ≡ take n (drop at draws)) where
+      turn-is : benchOf n (momentAfter n slots draws j .slots) (drawsOf n draws j) ≡ o
+      turn-is =
+          ap (λ (s : List Station). benchOf n s (drawsOf n draws j)) (sym (g .standing))
+          ∙ bench-takes n current (drawsOf n draws j) own
+          (take-take n n (drop (n * j) draws) (le-refl n) ∙ ap (λ (k : ℕ). take n (drop k draws)) (sym (g .place)) ∙ sym same)
+          ∙ sym is
 
-        calls : callsOf (length lines - j) n current (drop at draws) ≡ o ∷ callsOf (length lines - (j + 1)) n (o .slots) (drop (at + n) draws)
-        unfolding callsOf
-        calls =
-            ap (λ (k : ℕ). callsOf k n current (drop at draws)) one-more
-            ∙ ap₂ (λ (x : BenchTurn) (l : List ℕ). x ∷ callsOf (length lines - (j + 1)) n (x .slots) l) o-is (drop-drop n at draws)
+      one-more : turnsOf n slots draws (suc j) ≡ turns ++ (o ∷ [])
+      unfolding turnsOf
+      one-more = ap (λ (x : BenchTurn). turns ++ (x ∷ [])) turn-is
 
-        pub going-next : (x m k : ℕ) → x ≡ lineByte (o .answer) → m ≡ maskOf (o .done) → (k ≡ counts (o .answer)) × (k ≤ 1)
-            → Going n slots draws lines marks (set linesNow j x) (set (set marksNow (2 * j) (m / 256 % 256)) (2 * j + 1) (m % 256)) (o .slots) (count + k) (at + n) (j + 1)
-        unfolding counted flatMap
-        going-next x m k ex em ek =
-            let rest = callsOf (length lines - (j + 1)) n (o .slots) (drop (at + n) draws) in
-            let marked = set (set marksNow (2 * j) (m / 256 % 256)) (2 * j + 1) (m % 256) in
-            let two : 2 * (j + 1) ≡ suc (suc (2 * j)) = omega arith in
-            record {
-              within = omega arith;
-              lines-long = length-set linesNow j x ∙ g .lines-long;
-              marks-long = length-set (set marksNow (2 * j) (m / 256 % 256)) (2 * j + 1) (m % 256) ∙ length-set marksNow (2 * j) (m / 256 % 256) ∙ g .marks-long;
-              left = draws-left;
-              few = omega (arith, g .few, ek .1);
-              counting = add-assoc count k (counted rest) ∙ ap (λ (y : ℕ). count + (y + counted rest)) (ek .0) ∙ ap (λ (os : List BenchTurn). count + counted os) (sym calls) ∙ g .counting;
-              lining =
-                  ap₂ (λ (i y : ℕ). sets (set linesNow j y) i (map lineOfTurn rest)) (add-one j) ex
-                  ∙ ap (λ (os : List BenchTurn). sets linesNow j (map lineOfTurn os)) (sym calls)
-                  ∙ g .lining;
-              marking =
-                  ap₂ (λ (i e : ℕ). sets (set (set marksNow (2 * j) (m / 256 % 256)) i (m % 256)) e (flatMap markBytes rest)) (add-one (2 * j)) two
-                  ∙ ap (λ (y : ℕ). sets (set (set marksNow (2 * j) (y / 256 % 256)) (suc (2 * j)) (y % 256)) (suc (suc (2 * j))) (flatMap markBytes rest)) em
-                  ∙ ap (λ (os : List BenchTurn). sets marksNow (2 * j) (flatMap markBytes os)) (sym calls)
-                  ∙ g .marking;
-            }
+      lined : {x : ℕ} → x ≡ lineByte (o .answer) → lineBytes (turnsOf n slots draws (suc j)) ≡ lineBytes turns ++ (x ∷ [])
+      lined e =
+          ap lineBytes one-more
+          ∙ map-append (λ (t : BenchTurn). lineByte (t .answer)) turns (o ∷ [])
+          ∙ ap (λ (y : ℕ). lineBytes turns ++ (y ∷ [])) (sym e)
+
+      marked : {m : ℕ} → m ≡ maskOf (o .done)
+          → flatMap markBytes (turnsOf n slots draws (suc j)) ≡ flatMap markBytes turns ++ (m / 256 % 256 ∷ []) ++ (m % 256 ∷ [])
+      unfolding flatMap
+      marked {m} e =
+          ap (flatMap markBytes) one-more
+          ∙ flat-append turns (o ∷ [])
+          ∙ ap (λ (y : ℕ). flatMap markBytes turns ++ (y / 256 % 256 ∷ y % 256 ∷ [])) (sym e)
+          ∙ sym (append-snoc (flatMap markBytes turns) (m / 256 % 256) (m % 256 ∷ []))
+
+      pub going-next : {x m k : ℕ} → x ≡ lineByte (o .answer) → m ≡ maskOf (o .done) → (k ≡ counts (o .answer)) × (k ≤ 1)
+          → Going n slots draws lines marks
+          (set linesNow j x) (set (set marksNow (2 * j) (m / 256 % 256)) (2 * j + 1) (m % 256)) (o .slots) (count + k) (at + n) (j + 1)
+      unfolding run callsOf
+      going-next {x} {m} {k} ex em ek =
+          let now = momentAfter n slots draws j in
+          let hi = m / 256 % 256 in
+          let lo = m % 256 in
+          let before = flatMap markBytes turns in
+          let many = turns-length n slots draws j in
+          let long = marks-length turns in
+          let room = g .room in
+          let two : 2 * j + 1 + 1 ≡ 2 * suc j = omega arith in
+          let linesNext = set linesNow j x in
+          let marksNext = set (set marksNow (2 * j) hi) (2 * j + 1) lo in
+          subst (λ (i : ℕ). Going n slots draws lines marks linesNext marksNext (o .slots) (count + k) (at + n) i) (sym (add-one j))
+          (record {
+            most = g .most;
+            whole = g .whole;
+            room = room;
+            within = more;
+            lines-long = length-set linesNow j x ∙ g .lines-long;
+            marks-long = length-set (set marksNow (2 * j) hi) (2 * j + 1) lo ∙ length-set marksNow (2 * j) hi ∙ g .marks-long;
+            few = omega (arith, g .few, ek .1);
+            place = ap (λ (p : ℕ). p + n) (g .place) ∙ sym (mul-suc n j);
+            standing = sym (call-slots n now (drawsOf n draws j) ∙ ap (λ (t : BenchTurn). t .slots) turn-is);
+            counting =
+                ap₂ (λ (a b : ℕ). a + b) (g .counting) (ek .0 ∙ ap (λ (t : BenchTurn). counts (t .answer)) (sym turn-is))
+                ∙ sym (call-counts n now (drawsOf n draws j));
+            lining =
+                ap (λ (l : List ℕ). set l j x) (g .lining)
+                ∙ put-next (lineBytes turns) lines j x (length-map turns _ ∙ many) more
+                ∙ ap₂ (λ (l : List ℕ) (i : ℕ). l ++ drop i lines) (sym (lined ex)) (add-one j);
+            marking =
+                ap (λ (l : List ℕ). set (set l (2 * j) hi) (2 * j + 1) lo) (g .marking)
+                ∙ ap (λ (l : List ℕ). set l (2 * j + 1) lo) (put-next before marks (2 * j) hi (omega arith) (omega arith))
+                ∙ put-next (before ++ (hi ∷ [])) marks (2 * j + 1) lo (length-append before (hi ∷ []) ∙ omega arith) (omega arith)
+                ∙ ap₂ (λ (l : List ℕ) (i : ℕ). l ++ drop i marks) (sym (marked em)) two;
+          })

@@ -1,3 +1,3 @@
 pub mod LoadLaws
 pub mod CallLaws
-pub mod RunNumbers
+pub mod RunLaws

@@ -14,9 +14,9 @@ use lib.ListN.{length, getD, set, take, drop, replicate, length-replicate}
 use lib.Seq.{sets, sets-eq, drop-cons, drop-drop, take-suc, take-suc-set, getD-drop}
 use Rattle.station.specs.Stations.{emptyStation, drawOk}
 use Rattle.station.specs.declared.Station.{Station}
-use Rattle.bench.specs.Benches.{mostStations, drawsOk}
+use Rattle.station.specs.Benches.{mostStations, drawsOk}
 use Rattle.wire.specs.Messages.{messageIn}
-use Rattle.bench_run.specs.BenchRuns.{saysOk, allSay, loadedBy, benchFrom, slotsFrom}
+use Rattle.bench_run.specs.BenchRuns.{saysMessage, allSay, loadedBy, benchFrom, slotsFrom}
 
 pub draws-cons : (ds : List ℕ) (i : ℕ) → i < length ds → drawsOk (drop i ds) ≡ (drawOk (getD ds i 0) && drawsOk (drop (i + 1) ds))
 unfolding drawsOk
@@ -29,12 +29,12 @@ further i bytes =
     drop-drop 5 (5 * i) bytes ∙ ap (λ (k : ℕ). drop k bytes) place
 
 pub say-cons : (k i : ℕ) (bytes : List ℕ) → i < k
-    → allSay (k - i) (drop (5 * i) bytes) ≡ (saysOk (messageIn (drop (5 * i) bytes)) && allSay (k - (i + 1)) (drop (5 * (i + 1)) bytes))
+    → allSay (k - i) (drop (5 * i) bytes) ≡ (saysMessage (messageIn (drop (5 * i) bytes)) && allSay (k - (i + 1)) (drop (5 * (i + 1)) bytes))
 unfolding allSay
 say-cons k i bytes more =
     let left : k - i ≡ suc (k - (i + 1)) = omega arith in
     ap (λ (n : ℕ). allSay n (drop (5 * i) bytes)) left
-    ∙ ap (λ (l : List ℕ). saysOk (messageIn (drop (5 * i) bytes)) && allSay (k - (i + 1)) l) (further i bytes)
+    ∙ ap (λ (l : List ℕ). saysMessage (messageIn (drop (5 * i) bytes)) && allSay (k - (i + 1)) l) (further i bytes)
 
 pub draw-put : (own draws : List ℕ) (at i : ℕ) → i < length own → at + i < length draws → length own ≡ 16 → take i own ≡ take i (drop at draws)
     → (length (drop at draws) ≡ length draws - at) → take (i + 1) (set own i (getD draws (at + i) 0)) ≡ take (i + 1) (drop at draws)

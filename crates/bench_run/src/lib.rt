@@ -1,35 +1,27 @@
 // A run of the bench over lent bytes: stations loaded from messages and draws, then one call for each byte of the line.
-use bench::BenchAnswer;
-use bench::BenchTurn;
-use bench::SLOTS;
-use bench::half_cycle;
+use ground::CountAnswer;
+use ground::Refusal;
+use ground::refusal_number;
 use station::Station;
+use station::bench::BenchAnswer;
+use station::bench::BenchTurn;
+use station::bench::SLOTS;
+use station::bench::half_cycle;
 use station::draw_ok;
 use station::empty;
 use station::load;
 use wire::MessageRead;
 use wire::message_from;
 ghost use mathlib.Core.Path.{_≡_};
+ghost use mathlib.Core.List.{_++_, flatMap};
 ghost use Prim.Native.Nat.{_+_, _*_, _/_, _≤_};
 ghost use lib.ListN.{length, take, drop};
 ghost use Rattle.ground.specs.Choice.{pick};
-ghost use Rattle.bench.specs.Benches.{drawsOk};
+ghost use Rattle.ground.specs.Refusals.{countReport};
+ghost use Rattle.station.specs.Benches.{drawsOk};
 ghost use Rattle.wire.specs.Messages.{messageIn};
-ghost use Rattle.bench_run.specs.BenchRuns.{saysOk, allSay, loadedBy, slotsFrom, lineByte, counts, maskOf, Called, benchMeans, lent, runAnswer, linesAfter, marksAfter};
-
-// What a run answers.
-pub enum BenchRunAnswer {
-    // So many calls were not refused.
-    Ran(usize),
-    // A message that is none, or that has a house or unit above 15.
-    RefusedMessage,
-    // No station or more than sixteen, or not five bytes of message for each.
-    RefusedState,
-    // A draw to load with that is not 8 to 10.
-    RefusedDraw,
-    // Not a draw for each station and call, or too few marks.
-    RefusedShort,
-}
+ghost use Rattle.bench_run.specs.BenchRuns.{saysMessage, allSay, loadedBy, slotsFrom, momentAfter, turnsOf, lineByte, lineBytes, markBytes, counts, maskOf};
+ghost use Rattle.bench_run.specs.BenchRuns.{lent, runAnswer, runReport, linesAfter, marksAfter};
 
 // The message that stands at a place.
 fn message_at(messages: &[u8], at: usize) -> MessageRead
@@ -45,13 +37,13 @@ fn message_at(messages: &[u8], at: usize) -> MessageRead
     )
 }
 
-// Whether there is a message, with its house and unit 0 to 15.
-fn says_ok(read: MessageRead) -> bool
-    ensures { λ r. ⌜ r ≡ saysOk read ⌝ }
+// Whether there is a message.
+fn says_message(read: MessageRead) -> bool
+    ensures { λ r. ⌜ r ≡ saysMessage read ⌝ }
 {
     match read {
-        MessageRead::Message(m) => message::valid(m),
-        MessageRead::NoMessage => false,
+        MessageRead::Message(_) => true,
+        MessageRead::Refused(_) => false,
     }
 }
 
@@ -62,7 +54,7 @@ fn messages_fine(messages: &[u8]) -> bool
     let count = messages.len() / 5;
     let mut i: usize = 0;
     while i < count {
-        if !says_ok(message_at(messages, 5 * i)) {
+        if !says_message(message_at(messages, 5 * i)) {
             return false;
         }
         i += 1;
@@ -94,7 +86,7 @@ fn loaded_by(read: MessageRead, draw: u8) -> Station
             let next = loading.next;
             next
         }
-        MessageRead::NoMessage => empty(),
+        MessageRead::Refused(_) => empty(),
     }
 }
 
@@ -133,8 +125,7 @@ fn line_byte(answer: BenchAnswer) -> u8
 {
     match answer {
         BenchAnswer::Line(half) => half,
-        BenchAnswer::RefusedState => 6,
-        BenchAnswer::RefusedDraw => 7,
+        BenchAnswer::Refused(why) => refusal_number(why),
     }
 }
 
@@ -144,8 +135,7 @@ fn counts_as(answer: BenchAnswer) -> usize
 {
     match answer {
         BenchAnswer::Line(_) => 1,
-        BenchAnswer::RefusedState => 0,
-        BenchAnswer::RefusedDraw => 0,
+        BenchAnswer::Refused(_) => 0,
     }
 }
 
@@ -179,7 +169,9 @@ fn run_all(
     marks: &mut [u8],
 ) -> usize
     requires { ⌜ (n ≤ 16) × (length (now draws) ≡ n * length (now lines)) × (2 * length (now lines) ≤ length (now marks)) ⌝ }
-    ensures { λ r. ⌜ Called n slots (now (draws .entry)) (now (lines .entry)) (now (marks .entry)) r (now (lines .exit)) (now (marks .exit)) ⌝ }
+    ensures count { λ r. ⌜ r ≡ length (momentAfter n slots (now (draws .entry)) (length (now (lines .entry))) .past) ⌝ }
+    ensures lines { λ _. ⌜ now (lines .exit) ≡ lineBytes (turnsOf n slots (now (draws .entry)) (length (now (lines .entry)))) ⌝ }
+    ensures marks { λ _. ⌜ now (marks .exit) ≡ flatMap markBytes (turnsOf n slots (now (draws .entry)) (length (now (lines .entry)))) ++ drop (2 * length (now (lines .entry))) (now (marks .entry)) ⌝ }
 {
     let mut turn = BenchTurn {
         answer: BenchAnswer::Line(0),
@@ -205,43 +197,45 @@ fn run_all(
     count
 }
 
-// Loads a station for each draw of loads, and calls the bench once for each byte of lines. Refused, it changes nothing.
+// Loads a station for each draw of loads, calls the bench once for each byte of lines, and answers how many calls were not refused.
+// Refused, it changes nothing.
 pub fn run(
     messages: &[u8],
     loads: &[u8],
     draws: &[u8],
     lines: &mut [u8],
     marks: &mut [u8],
-) -> BenchRunAnswer
-    ensures answer { λ r. ⌜ benchMeans r ≡ runAnswer (lent (now (messages .entry)) (now (loads .entry)) (now (draws .entry)) (now (lines .entry)) (now (marks .entry))) ⌝ }
+) -> CountAnswer
+    ensures answer { λ r. ⌜ r ≡ runAnswer (lent (now (messages .entry)) (now (loads .entry)) (now (draws .entry)) (now (lines .entry)) (now (marks .entry))) ⌝ }
+    ensures report { λ r. ⌜ countReport r ≡ runReport (lent (now (messages .entry)) (now (loads .entry)) (now (draws .entry)) (now (lines .entry)) (now (marks .entry))) ⌝ }
     ensures lines { λ _. ⌜ now (lines .exit) ≡ linesAfter (lent (now (messages .entry)) (now (loads .entry)) (now (draws .entry)) (now (lines .entry)) (now (marks .entry))) ⌝ }
     ensures marks { λ _. ⌜ now (marks .exit) ≡ marksAfter (lent (now (messages .entry)) (now (loads .entry)) (now (draws .entry)) (now (lines .entry)) (now (marks .entry))) ⌝ }
 {
     if !messages_fine(messages) {
-        return BenchRunAnswer::RefusedMessage;
+        return CountAnswer::Refused(Refusal::Message);
     }
     let n = loads.len();
     if n < 1 {
-        return BenchRunAnswer::RefusedState;
+        return CountAnswer::Refused(Refusal::State);
     }
     if SLOTS < n {
-        return BenchRunAnswer::RefusedState;
+        return CountAnswer::Refused(Refusal::State);
     }
     if messages.len() != 5 * n {
-        return BenchRunAnswer::RefusedState;
+        return CountAnswer::Refused(Refusal::State);
     }
     if !draws_fine(loads) {
-        return BenchRunAnswer::RefusedDraw;
+        return CountAnswer::Refused(Refusal::Draw);
     }
     let calls = lines.len();
     if draws.len() / n != calls {
-        return BenchRunAnswer::RefusedShort;
+        return CountAnswer::Refused(Refusal::Short);
     }
     if draws.len() % n != 0 {
-        return BenchRunAnswer::RefusedShort;
+        return CountAnswer::Refused(Refusal::Short);
     }
     if marks.len() / 2 < calls {
-        return BenchRunAnswer::RefusedShort;
+        return CountAnswer::Refused(Refusal::Short);
     }
-    BenchRunAnswer::Ran(run_all(slots_from(messages, loads), n, draws, lines, marks))
+    CountAnswer::Done(run_all(slots_from(messages, loads), n, draws, lines, marks))
 }

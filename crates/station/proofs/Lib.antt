@@ -1,5 +1,7 @@
-pub mod Judged
 pub mod HalfAt
-pub mod NumberLaws
+pub mod SendLaws
 pub mod StateLaws
 pub mod TurnLaws
+pub mod SlotLaws
+pub mod Loops
+pub mod Lowest

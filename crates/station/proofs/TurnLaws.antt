@@ -1,87 +1,59 @@
 -- Laws of a station whose state is one of 01's.
 --
---     sends-told, refused-told     what the answer of `sends` says of the state
---     turn-empty, turn-done, turn-on     one half-cycle of it, by its move
+--     sends-told, refused-told                   what the answer of `sends` says of the state
+--     Ready, turn-empty                          a judged station that has sent and heard; an empty one stays
+--     turn-aborts, turn-counts, turn-goes, turn-ends     what one half-cycle makes of one with a message, by the tests of `moves`
+--     by-done, by-going                          the turn that a move's numbers stand for
+--     send-promise, load-promise, turn-promise   what each answer reports, by its causes
 use mathlib.Core.Path.{_≡_, refl, sym, ap, subst, _∙_}
 use mathlib.Core.Bool.{Bool, true, false, and-eq-true-iff}
-use Prim.Native.Nat.{ℕ, zero, suc, _+_, _≤_, _<_}
+use mathlib.Core.List.{[], _∷_}
+use Prim.Native.Nat.{ℕ, _+_, _≤_, _<_}
 use native.Mathlib.Omega.{arith}
 use native.Mathlib.Decide.{decLt}
-use borrow.Author.Tests.{leb-true, ltb-true, eq-eqb, ne-eqb, lt-ltb, le-ltb, le-leb}
+use borrow.Author.Tests.{leb-true, ltb-true, eq-eqb, ne-eqb, le-leb}
 use lib.Dec.{eqb, leb, ltb}
 use lib.ListN.{getD}
 use Rattle.ground.specs.Choice.{pick}
+use Rattle.ground.specs.Refusals.{Report, reports, refuses, judged}
+use Rattle.ground.specs.declared.Refusal.{Refusal}
+use Rattle.ground.specs.declared.Refusal.the-variants as refusal
+use Rattle.ground.proofs.Choices.{pick-both}
+use Rattle.ground.proofs.Causes.{judged-map}
 use Rattle.message.specs.declared.Message.{Message}
 use Rattle.burst.specs.Frames.{burstOf, burstLength}
-use Rattle.station.specs.Stations.{emptyStation, loaded, sendsOn, drawOk, heldOk, stationOk, heldSends, sendsOf, sendOf, heldMoves, turnOf, moveOf}
-use Rattle.station.specs.declared.Move.{Move}
-use Rattle.station.specs.declared.Turn.{Turn}
-use Rattle.station.specs.declared.TurnAnswer.the-variants as turn
+use Rattle.station.specs.Stations.{emptyStation, loaded, drawOk, heldOk, stationOk, loadOf, loadCauses, loadReport, heldSends, sendsOf, sendOf, sendCauses, sendReport, heldMoves, turnCauses, turnOf, isDone, turnReport, turnBy}
 use Rattle.station.specs.declared.Held.{Held}
 use Rattle.station.specs.declared.Held.the-variants.{Empty, Holds}
-use Rattle.station.specs.declared.Station.{Station}
+use Rattle.station.specs.declared.Loading.{Loading}
+use Rattle.station.specs.declared.Move.{Move}
+use Rattle.station.specs.declared.SendAnswer.{SendAnswer}
 use Rattle.station.specs.declared.SendAnswer.the-variants as send
+use Rattle.station.specs.declared.Station.{Station}
+use Rattle.station.specs.declared.Turn.{Turn}
+use Rattle.station.specs.declared.TurnAnswer.the-variants as turn
+use Rattle.station.proofs.SendLaws.{no-fault}
 
-module _ (m : Message) (wait count place : ℕ) (ok : heldOk (Holds m) wait count place ≡ true) where
-  held-counts : count ≤ wait
-  held-counts =
-      let rest = and-eq-true-iff (drawOk wait) _ .0 ok .1 in
-      leb-true count wait (and-eq-true-iff (leb count wait) _ .0 rest .0)
+-- ---- what `sends` tells
 
-  held-within : place < burstLength m
-  held-within =
-      let rest = and-eq-true-iff (drawOk wait) _ .0 ok .1 in
-      let tail = and-eq-true-iff (leb count wait) _ .0 rest .1 in
-      ltb-true place (burstLength m) (and-eq-true-iff (ltb place (burstLength m)) _ .0 tail .0)
+module _ (s : Station) where
+  pub sends-told : (h : ℕ) → sendOf s ≡ send.Sends h → (stationOk s ≡ true) × (sendsOf s ≡ h)
+  unfolding sendOf judged
+  sends-told h e = go (stationOk s) e
+    where
+      go : (ok : Bool) → pick ok (send.Sends (sendsOf s)) (send.Refused refusal.State) ≡ send.Sends h → (ok ≡ true) × (sendsOf s ≡ h)
+      go true e = (refl, cc)
+      go false e = (cc, cc)
 
--- ---- moving
+  pub refused-told : (why : Refusal) → sendOf s ≡ send.Refused why → stationOk s ≡ false
+  unfolding sendOf judged
+  refused-told why e = go (stationOk s) e
+    where
+      go : (ok : Bool) → pick ok (send.Sends (sendsOf s)) (send.Refused refusal.State) ≡ send.Refused why → ok ≡ false
+      go true e = cc
+      go false e = refl
 
--- what a move makes of a station that holds something
-abbrev pub moveTurn : Held → Move → Turn
-moveTurn h v =
-    pick (v .done) (record { answer = turn.Done; next = emptyStation })
-    (record { answer = turn.Going; next = record { held = h; wait = v .wait; count = v .count; place = v .place } })
-
--- while it waits: a clear half-cycle is counted, a 1 starts again
-wait-moves : (m : Message) (s : Station) (heard draw : ℕ) → heard ≤ 1 → s .count < s .wait → heldMoves (Holds m) s heard draw ≡ moveTurn (Holds m) (moveOf m s 0 heard draw)
-unfolding moveOf
-wait-moves m s zero draw h l = rw (ne-eqb (s .count) (s .wait) (λ e. omega arith), lt-ltb (s .count) (s .wait) l)
-wait-moves m s (suc zero) draw h l = rw (ne-eqb (s .count) (s .wait) (λ e. omega arith))
-wait-moves m s (suc (suc n)) draw h l = absurd (omega arith)
-
--- while it sends: the place goes on up to the last, and a 1 that it did not send starts again
-send-moves : (m : Message) (s : Station) (heard draw : ℕ) → s .count ≡ s .wait → s .place < burstLength m → heldMoves (Holds m) s heard draw ≡ moveTurn (Holds m) (moveOf m s (getD (burstOf m) (s .place) 0) heard draw)
-unfolding moveOf
-send-moves m s heard draw e within =
-    rw (eq-eqb (s .count) (s .wait) e, le-ltb (s .count) (s .wait) (omega arith))
-    (by-heard (eqb (getD (burstOf m) (s .place) 0) heard))
-  where
-    on : Move
-    on = record { done = false; wait = s .wait; count = s .count; place = s .place + 1 }
-
-    last : Move
-    last = record { done = true; wait = 8; count = 0; place = 0 }
-
-    by-place : Dec (s .place + 1 < burstLength m) → sendsOn m (s .wait) (s .count) (s .place) ≡ moveTurn (Holds m) (pick (ltb (s .place + 1) (burstLength m)) on last)
-    by-place (yes l) = rw (lt-ltb (s .place + 1) (burstLength m) l, ne-eqb (s .place + 1) (burstLength m) (λ q. omega arith))
-    by-place (no l) = rw (le-ltb (s .place + 1) (burstLength m) (omega arith), eq-eqb (s .place + 1) (burstLength m) (omega arith))
-
-    by-heard : (same : Bool) → pick same (sendsOn m (s .wait) (s .count) (s .place)) (record { answer = turn.Going; next = loaded m draw }) ≡ moveTurn (Holds m) (pick same (pick (ltb (s .place + 1) (burstLength m)) on last) (record { done = false; wait = draw; count = 0; place = 0 }))
-    by-heard true = by-place (decLt (s .place + 1) (burstLength m))
-    by-heard false = refl
-
-held-moves : (m : Message) (s : Station) (heard draw : ℕ) → heldOk (Holds m) (s .wait) (s .count) (s .place) ≡ true → heard ≤ 1 → heldMoves (Holds m) s heard draw ≡ moveTurn (Holds m) (moveOf m s (heldSends (Holds m) (s .wait) (s .count) (s .place)) heard draw)
-held-moves m s heard draw ok half = go (decLt (s .count) (s .wait))
-  where
-    go : Dec (s .count < s .wait) → heldMoves (Holds m) s heard draw ≡ moveTurn (Holds m) (moveOf m s (heldSends (Holds m) (s .wait) (s .count) (s .place)) heard draw)
-    go (yes l) =
-        wait-moves m s heard draw half l
-        ∙ ap (λ (b : Bool). moveTurn (Holds m) (moveOf m s (pick b (getD (burstOf m) (s .place) 0) 0) heard draw)) (sym (ne-eqb (s .count) (s .wait) (λ e. omega arith)))
-    go (no l) =
-        let counts : s .count ≤ s .wait = held-counts m (s .wait) (s .count) (s .place) ok in
-        let level : s .count ≡ s .wait = omega arith in
-        send-moves m s heard draw level (held-within m (s .wait) (s .count) (s .place) ok)
-        ∙ ap (λ (b : Bool). moveTurn (Holds m) (moveOf m s (pick b (getD (burstOf m) (s .place) 0) 0) heard draw)) (sym (eq-eqb (s .count) (s .wait) level))
+-- ---- one half-cycle of a judged station
 
 -- what is known of a judged station that has sent its half-cycle and heard the line's
 pub record Ready (s : Station) (sent heard draw : ℕ) : Type 0 where
@@ -91,45 +63,121 @@ pub record Ready (s : Station) (sent heard draw : ℕ) : Type 0 where
   pub is : sendsOf s ≡ sent
   pub kept : sent ≤ heard
 
--- one half-cycle of it
+-- one with a message that goes on
+abbrev going : Station → Turn
+going s = record { answer = turn.Going; next = s }
+
 module _ {s : Station} {sent heard draw : ℕ} (r : Ready s sent heard draw) where
   turn-moves : turnOf s heard draw ≡ heldMoves (s .held) s heard draw
-  unfolding turnOf
-  turn-moves = rw (le-leb heard 1 (r .half), r .ok, r .drawn, r .is, le-leb sent heard (r .kept))
+  unfolding turnOf judged
+  turn-moves = rw (le-leb heard 1 (r .half), r .ok, r .drawn, r .is, no-fault sent heard (r .kept))
 
-  pub turn-empty : s .held ≡ Empty → turnOf s heard draw ≡ record { answer = turn.Going; next = s }
+  pub turn-empty : s .held ≡ Empty → turnOf s heard draw ≡ going s
   turn-empty e = turn-moves ∙ ap (λ (h : Held). heldMoves h s heard draw) e
 
-  module _ {m : Message} (e : s .held ≡ Holds m) {v : Move} (by : v ≡ moveOf m s sent heard draw) where
-    turn-holds : turnOf s heard draw ≡ moveTurn (Holds m) v
-    unfolding stationOk sendsOf
-    turn-holds =
-        turn-moves
-        ∙ ap (λ (h : Held). heldMoves h s heard draw) e
-        ∙ held-moves m s heard draw (subst (λ (h : Held). heldOk h (s .wait) (s .count) (s .place) ≡ true) e (r .ok)) (r .half)
-        ∙ ap (λ (h : Held). moveTurn (Holds m) (moveOf m s (heldSends h (s .wait) (s .count) (s .place)) heard draw)) (sym e)
-        ∙ ap (λ (n : ℕ). moveTurn (Holds m) (moveOf m s n heard draw)) (r .is)
-        ∙ ap (moveTurn (Holds m)) (sym by)
+  module _ {m : Message} (e : s .held ≡ Holds m) where
+    turn-holds : turnOf s heard draw ≡ heldMoves (Holds m) s heard draw
+    turn-holds = turn-moves ∙ ap (λ (h : Held). heldMoves h s heard draw) e
 
-    pub turn-done : v .done ≡ true → turnOf s heard draw ≡ record { answer = turn.Done; next = emptyStation }
-    turn-done d = turn-holds ∙ rw d
+    held-ok : heldOk (Holds m) (s .wait) (s .count) (s .place) ≡ true
+    unfolding stationOk
+    held-ok = subst (λ (h : Held). heldOk h (s .wait) (s .count) (s .place) ≡ true) e (r .ok)
 
-    pub turn-on : v .done ≡ false → turnOf s heard draw ≡ record { answer = turn.Going; next = record { held = Holds m; wait = v .wait; count = v .count; place = v .place } }
-    turn-on d = turn-holds ∙ rw d
+    held-sends : heldSends (Holds m) (s .wait) (s .count) (s .place) ≡ sent
+    unfolding sendsOf
+    held-sends = ap (λ (h : Held). heldSends h (s .wait) (s .count) (s .place)) (sym e) ∙ r .is
 
-module _ (s : Station) where
-  pub sends-told : (h : ℕ) → sendOf s ≡ send.Sends h → (stationOk s ≡ true) × (sendsOf s ≡ h)
-  unfolding sendOf
-  sends-told h e = go (stationOk s) e
-    where
-      go : (ok : Bool) → pick ok (send.Sends (sendsOf s)) send.RefusedState ≡ send.Sends h → (ok ≡ true) × (sendsOf s ≡ h)
-      go true e = (refl, cc)
-      go false e = (cc, cc)
+    -- one that waits sends 0
+    waits-clear : s .count < s .wait → sent ≡ 0
+    waits-clear l =
+        sym held-sends ∙ ap (λ (b : Bool). pick b (getD (burstOf m) (s .place) 0) 0) (ne-eqb (s .count) (s .wait) (λ q. omega arith))
 
-  pub refused-told : sendOf s ≡ send.RefusedState → stationOk s ≡ false
-  unfolding sendOf
-  refused-told e = go (stationOk s) e
-    where
-      go : (ok : Bool) → pick ok (send.Sends (sendsOf s)) send.RefusedState ≡ send.RefusedState → ok ≡ false
-      go true e = cc
-      go false e = refl
+    -- one that no longer waits has its count at its wait, and sends its burst
+    level : s .wait ≤ s .count → eqb (s .count) (s .wait) ≡ true
+    level l =
+        let rest = and-eq-true-iff (drawOk (s .wait)) _ .0 held-ok .1 in
+        let counts : s .count ≤ s .wait = leb-true (s .count) (s .wait) (and-eq-true-iff (leb (s .count) (s .wait)) _ .0 rest .0) in
+        eq-eqb (s .count) (s .wait) (omega arith)
+
+    within : s .place < burstLength m
+    within =
+        let rest = and-eq-true-iff (drawOk (s .wait)) _ .0 held-ok .1 in
+        let tail = and-eq-true-iff (leb (s .count) (s .wait)) _ .0 rest .1 in
+        ltb-true (s .place) (burstLength m) (and-eq-true-iff (ltb (s .place) (burstLength m)) _ .0 tail .0)
+
+    sends-burst : s .wait ≤ s .count → getD (burstOf m) (s .place) 0 ≡ sent
+    sends-burst l = sym (ap (λ (b : Bool). pick b (getD (burstOf m) (s .place) 0) 0) (level l)) ∙ held-sends
+
+    pub turn-aborts : (sent ≡ heard → ⊥) → turnOf s heard draw ≡ going (loaded m draw)
+    turn-aborts n = turn-holds ∙ go (decLt (s .count) (s .wait))
+      where
+        go : Dec (s .count < s .wait) → heldMoves (Holds m) s heard draw ≡ going (loaded m draw)
+        go (yes l) =
+            let one : heard ≡ 1 = omega (arith, r .half, r .kept) in
+            rw (ne-eqb (s .count) (s .wait) (λ q. omega arith), eq-eqb heard 1 one)
+        go (no l) =
+            let burst = sends-burst (omega arith) in
+            rw (level (omega arith), ne-eqb (getD (burstOf m) (s .place) 0) heard (λ q. n (sym burst ∙ q)))
+
+    module _ (same : sent ≡ heard) where
+      pub turn-counts : s .count < s .wait
+          → turnOf s heard draw ≡ going (record { held = Holds m; wait = s .wait; count = s .count + 1; place = 0 })
+      turn-counts l =
+          let clear = waits-clear l in
+          turn-holds ∙ rw (ne-eqb (s .count) (s .wait) (λ q. omega arith), ne-eqb heard 1 (λ q. omega arith))
+
+      pub turn-goes : s .wait ≤ s .count → s .place + 1 < burstLength m
+          → turnOf s heard draw ≡ going (record { held = Holds m; wait = s .wait; count = s .count; place = s .place + 1 })
+      turn-goes l k =
+          turn-holds
+          ∙ rw (level l, eq-eqb (getD (burstOf m) (s .place) 0) heard (sends-burst l ∙ same), ne-eqb (s .place + 1) (burstLength m) (λ q. omega arith))
+
+      pub turn-ends : s .wait ≤ s .count → burstLength m ≤ s .place + 1 → turnOf s heard draw ≡ record { answer = turn.Done; next = emptyStation }
+      turn-ends l k =
+          let last : s .place + 1 ≡ burstLength m = omega (arith, within) in
+          turn-holds
+          ∙ rw (level l, eq-eqb (getD (burstOf m) (s .place) 0) heard (sends-burst l ∙ same), eq-eqb (s .place + 1) (burstLength m) last)
+
+-- ---- the turn that a move's numbers stand for
+
+module _ {t : Turn} (h : Held) (v : Move) (by : t ≡ turnBy h v) where
+  pub by-done : v .done ≡ true → t ≡ record { answer = turn.Done; next = emptyStation }
+  by-done d = by ∙ rw d
+
+  pub by-going : v .done ≡ false → t ≡ going (record { held = h; wait = v .wait; count = v .count; place = v .place })
+  by-going d = by ∙ rw d
+
+-- ---- the promises of each routine, from its answer
+
+pub send-promise : {o : SendAnswer} (s : Station) → o ≡ sendOf s
+    → (o ≡ sendOf s) × (sendReport o ≡ judged (sendCauses s) (reports (sendsOf s ∷ [])) refuses)
+unfolding sendOf
+send-promise s e = (e, ap sendReport e ∙ judged-map sendReport _ _ (sendCauses s))
+
+pub load-promise : {o : Loading} (s : Station) (m : Message) (draw : ℕ) → o ≡ loadOf s m draw
+    → (o ≡ loadOf s m draw) × (loadReport (o .answer) ≡ judged (loadCauses s m draw) (reports []) refuses)
+unfolding loadOf
+load-promise s m draw e =
+    let report : Loading → Report ℕ = λ o. loadReport (o .answer) in
+    (e, ap report e ∙ judged-map report _ _ (loadCauses s m draw))
+
+-- a station that moves refuses nothing
+abbrev Moved : Turn → Type 0
+Moved o = turnReport (o .answer) ≡ reports (isDone (o .answer) ∷ [])
+
+held-reports : (h : Held) (s : Station) (heard draw : ℕ) → Moved (heldMoves h s heard draw)
+held-reports Empty s heard draw = refl
+held-reports (Holds m) s heard draw =
+    pick-both Moved (eqb (s .count) (s .wait)) _ _
+    (pick-both Moved (eqb (getD (burstOf m) (s .place) 0) heard) _ _ (pick-both Moved (eqb (s .place + 1) (burstLength m)) _ _ refl refl) refl)
+    refl
+
+pub turn-promise : {o : Turn} (s : Station) (heard draw : ℕ) → o ≡ turnOf s heard draw
+    → (o ≡ turnOf s heard draw)
+    × (turnReport (o .answer) ≡ judged (turnCauses s heard draw) (reports (isDone (heldMoves (s .held) s heard draw .answer) ∷ [])) refuses)
+unfolding turnOf
+turn-promise s heard draw e =
+    let report : Turn → Report Bool = λ o. turnReport (o .answer) in
+    (e, ap report e
+    ∙ judged-map report _ _ (turnCauses s heard draw)
+    ∙ ap (λ (x : Report Bool). judged (turnCauses s heard draw) x refuses) (held-reports (s .held) s heard draw))

@@ -1,2 +1,3 @@
-pub mod Lowest
 pub mod Stations
+pub mod Benches
+pub mod LowestNumbers

@@ -1,15 +1,15 @@
 -- The station (01, 'Station and bench', 'Numbers given back'): loading, what it sends, and one half-cycle of it.
 use Prim.Native.Nat.{ℕ, _+_}
-use mathlib.Core.Bool.{Bool, true, false, _&&_, _||_, not}
+use mathlib.Core.Bool.{Bool, true, false, _&&_, _||_}
 use mathlib.Core.List.{List, [], _∷_}
 use lib.Dec.{eqb, leb, ltb}
 use lib.ListN.{getD}
 use Rattle.ground.specs.Choice.{pick}
-use Rattle.message.specs.Numbers.{NONE, MESSAGE, HALF, STATE, DRAW, BUSY, FAULT}
+use Rattle.ground.specs.Refusals.{Report, reports, refuses, Cause, when, unless, judged}
+use Rattle.ground.specs.declared.Refusal.the-variants as refusal
 use Rattle.message.specs.Messages.{messageOk}
 use Rattle.message.specs.declared.Message.{Message}
 use Rattle.burst.specs.Frames.{burstOf, burstLength}
-use Rattle.station.specs.Lowest.{Cause, cause, lowest}
 use Rattle.station.specs.declared.Held.{Held}
 use Rattle.station.specs.declared.Held.the-variants.{Empty, Holds}
 use Rattle.station.specs.declared.Station.{Station}
@@ -22,32 +22,6 @@ use Rattle.station.specs.declared.TurnAnswer.{TurnAnswer}
 use Rattle.station.specs.declared.TurnAnswer.the-variants as turn
 use Rattle.station.specs.declared.Turn.{Turn}
 use Rattle.station.specs.declared.Move.{Move}
-
--- ---- 01's number for each answer
-
-abbrev pub loadNumber : LoadAnswer → ℕ
-loadNumber load.Loaded = NONE
-loadNumber load.RefusedMessage = MESSAGE
-loadNumber load.RefusedState = STATE
-loadNumber load.RefusedDraw = DRAW
-loadNumber load.RefusedBusy = BUSY
-
--- the number, and the half-cycle sent: a refusal sends nothing
-pub record Sent : Type 0 where
-  pub number : ℕ
-  pub half : ℕ
-
-abbrev pub sentBy : SendAnswer → Sent
-sentBy (send.Sends h) = record { number = NONE; half = h }
-sentBy send.RefusedState = record { number = STATE; half = 0 }
-
-abbrev pub turnNumber : TurnAnswer → ℕ
-turnNumber turn.Going = NONE
-turnNumber turn.Done = NONE
-turnNumber turn.RefusedHalf = HALF
-turnNumber turn.RefusedState = STATE
-turnNumber turn.RefusedDraw = DRAW
-turnNumber turn.RefusedFault = FAULT
 
 -- ---- which states and draws there are
 
@@ -79,30 +53,25 @@ abbrev pub isEmpty : Held → Bool
 isEmpty Empty = true
 isEmpty (Holds m) = false
 
--- "the lowest number that applies", the station then as it was
-unfoldable pub loadOf : Station → Message → ℕ → Loading
-loadOf s m draw =
-    pick (messageOk m)
-    (pick (stationOk s)
-    (pick (drawOk draw)
-    (pick (isEmpty (s .held))
-    (record { answer = load.Loaded; next = loaded m draw })
-    (record { answer = load.RefusedBusy; next = s }))
-    (record { answer = load.RefusedDraw; next = s }))
-    (record { answer = load.RefusedState; next = s }))
-    (record { answer = load.RefusedMessage; next = s })
-
--- the refusals of loading, and the number that it gives back
+-- BUSY: "loading a station that holds a message"
 abbrev pub loadCauses : Station → Message → ℕ → List Cause
 loadCauses s m draw =
-    cause (not (messageOk m)) MESSAGE
-    ∷ cause (not (stationOk s)) STATE
-    ∷ cause (not (drawOk draw)) DRAW
-    ∷ cause (not (isEmpty (s .held))) BUSY
+    unless (messageOk m) refusal.Message
+    ∷ unless (stationOk s) refusal.State
+    ∷ unless (drawOk draw) refusal.Draw
+    ∷ unless (isEmpty (s .held)) refusal.Busy
     ∷ []
 
-unfoldable pub loadRefusal : Station → Message → ℕ → ℕ
-loadRefusal s m draw = lowest (loadCauses s m draw)
+-- refused, the station is as it was
+unfoldable pub loadOf : Station → Message → ℕ → Loading
+loadOf s m draw =
+    judged (loadCauses s m draw) (record { answer = load.Loaded; next = loaded m draw })
+    (λ why. record { answer = load.Refused why; next = s })
+
+-- 01's number; there is no value
+abbrev pub loadReport : LoadAnswer → Report ℕ
+loadReport load.Loaded = reports []
+loadReport (load.Refused why) = refuses why
 
 -- ---- what it sends
 
@@ -114,15 +83,16 @@ heldSends (Holds m) wait count place = pick (eqb count wait) (getD (burstOf m) p
 unfoldable pub sendsOf : Station → ℕ
 sendsOf s = heldSends (s .held) (s .wait) (s .count) (s .place)
 
-unfoldable pub sendOf : Station → SendAnswer
-sendOf s = pick (stationOk s) (send.Sends (sendsOf s)) send.RefusedState
-
--- the one refusal of asking for it, and what is given back
 abbrev pub sendCauses : Station → List Cause
-sendCauses s = cause (not (stationOk s)) STATE ∷ []
+sendCauses s = unless (stationOk s) refusal.State ∷ []
 
-unfoldable pub sentOf : Station → Sent
-sentOf s = record { number = lowest (sendCauses s); half = pick (stationOk s) (sendsOf s) 0 }
+unfoldable pub sendOf : Station → SendAnswer
+sendOf s = judged (sendCauses s) (send.Sends (sendsOf s)) send.Refused
+
+-- 01's number, and the half-cycle
+abbrev pub sendReport : SendAnswer → Report ℕ
+sendReport (send.Sends h) = reports (h ∷ [])
+sendReport (send.Refused why) = refuses why
 
 -- ---- one half-cycle
 
@@ -151,58 +121,45 @@ heldMoves (Holds m) s heard draw =
     pick (eqb (s .count) (s .wait)) (sending m (s .wait) (s .count) (s .place) heard draw)
     (record { answer = turn.Going; next = waits m (s .wait) (s .count) heard draw })
 
--- "Sending 1 and hearing 0 is refusal 15."
-unfoldable pub turnOf : Station → ℕ → ℕ → Turn
-turnOf s heard draw =
-    pick (leb heard 1)
-    (pick (stationOk s)
-    (pick (drawOk draw)
-    (pick (leb (sendsOf s) heard)
-    (heldMoves (s .held) s heard draw)
-    (record { answer = turn.RefusedFault; next = s }))
-    (record { answer = turn.RefusedDraw; next = s }))
-    (record { answer = turn.RefusedState; next = s }))
-    (record { answer = turn.RefusedHalf; next = s })
-
--- the refusals of a half-cycle, FAULT: "sent 1, heard 0", and the number that it gives back
+-- FAULT: "sent 1, heard 0"
 abbrev pub turnCauses : Station → ℕ → ℕ → List Cause
 turnCauses s heard draw =
-    cause (not (leb heard 1)) HALF
-    ∷ cause (not (stationOk s)) STATE
-    ∷ cause (not (drawOk draw)) DRAW
-    ∷ cause (eqb (sendsOf s) 1 && eqb heard 0) FAULT
+    unless (leb heard 1) refusal.Half
+    ∷ unless (stationOk s) refusal.State
+    ∷ unless (drawOk draw) refusal.Draw
+    ∷ when (eqb (sendsOf s) 1 && eqb heard 0) refusal.Fault
     ∷ []
 
-unfoldable pub turnRefusal : Station → ℕ → ℕ → ℕ
-turnRefusal s heard draw = lowest (turnCauses s heard draw)
+-- refused, the station is as it was
+unfoldable pub turnOf : Station → ℕ → ℕ → Turn
+turnOf s heard draw =
+    judged (turnCauses s heard draw) (heldMoves (s .held) s heard draw)
+    (λ why. record { answer = turn.Refused why; next = s })
 
--- the mark of a station that says DONE
+-- whether it says DONE
 abbrev pub isDone : TurnAnswer → Bool
 isDone turn.Going = false
 isDone turn.Done = true
-isDone turn.RefusedHalf = false
-isDone turn.RefusedState = false
-isDone turn.RefusedDraw = false
-isDone turn.RefusedFault = false
+isDone (turn.Refused why) = false
 
--- ---- for whoever judges all of its stations before it moves one
+-- 01's number, and whether it says DONE
+abbrev pub turnReport : TurnAnswer → Report Bool
+turnReport turn.Going = reports (false ∷ [])
+turnReport turn.Done = reports (true ∷ [])
+turnReport (turn.Refused why) = refuses why
 
+-- ---- what only this crate's own steps use, over a station that was judged
+
+-- it sends nothing: it is empty, or its count is below its wait
 abbrev pub isQuiet : Held → ℕ → ℕ → Bool
 isQuiet Empty wait count = true
 isQuiet (Holds m) wait count = ltb count wait
 
--- a station in one of the states, that is empty or waits
 unfoldable pub idleOf : Station → Bool
 idleOf s = stationOk s && isQuiet (s .held) (s .wait) (s .count)
 
--- the numbers of a station with a message after a half-cycle, by the half-cycle that it sent: a waiting one sends 0. One that nobody
--- judged waits while its count is below its wait, and sends until its place is the last.
-unfoldable pub moveOf : Message → Station → ℕ → ℕ → ℕ → Move
-moveOf m s sent heard draw =
-    pick (eqb sent heard)
-    (pick (ltb (s .count) (s .wait))
-    (record { done = false; wait = s .wait; count = s .count + 1; place = 0 })
-    (pick (ltb (s .place + 1) (burstLength m))
-    (record { done = false; wait = s .wait; count = s .count; place = s .place + 1 })
-    (record { done = true; wait = 8; count = 0; place = 0 })))
-    (record { done = false; wait = draw; count = 0; place = 0 })
+-- the turn of a station with a message, by its numbers after it
+abbrev pub turnBy : Held → Move → Turn
+turnBy h v =
+    pick (v .done) (record { answer = turn.Done; next = emptyStation })
+    (record { answer = turn.Going; next = record { held = h; wait = v .wait; count = v .count; place = v .place } })

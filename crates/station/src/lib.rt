@@ -1,15 +1,20 @@
 // A sending station: holds at most one message, waits for a clear line, and sends the message's burst half-cycle by half-cycle.
-use burst::frame_length;
+use ground::Refusal;
 use message::Message;
-use message::word::bit_count;
+use message::word::WordAnswer;
 use message::word::word_of;
 ghost use mathlib.Core.Path.{_≡_};
 ghost use mathlib.Core.Bool.{true};
-ghost use mathlib.Core.List.{_∷_};
+ghost use mathlib.Core.List.{_∷_, []};
 ghost use Prim.Native.Nat.{_+_, _<_, _≤_};
 ghost use lib.ListN.{getD};
+ghost use Rattle.ground.specs.Refusals.{judged, reports, refuses, refusalNumber};
+ghost use Rattle.message.specs.Messages.{messageOk};
 ghost use Rattle.burst.specs.Frames.{bitsOf, pairsOf, burstOf, burstLength};
-ghost use Rattle.station.specs.Stations.{emptyStation, drawOk, stationOk, loadOf, loadNumber, loadRefusal, sendsOf, sendOf, sentBy, sentOf, idleOf, moveOf, turnOf, turnNumber, turnRefusal};
+ghost use Rattle.station.specs.declared.Held.the-variants.{Holds};
+ghost use Rattle.station.specs.Stations.{emptyStation, drawOk, stationOk, loadOf, loadReport, loadCauses, sendsOf, sendOf, sendReport, sendCauses, idleOf, turnBy, heldMoves, isDone, turnOf, turnReport, turnCauses};
+
+pub mod bench;
 
 pub enum Held {
     Empty,
@@ -30,10 +35,7 @@ pub struct Station {
 // What loading answers.
 pub enum LoadAnswer {
     Loaded,
-    RefusedMessage,
-    RefusedState,
-    RefusedDraw,
-    RefusedBusy,
+    Refused(Refusal),
 }
 
 pub struct Loading {
@@ -44,18 +46,14 @@ pub struct Loading {
 // What a station sends in this half-cycle.
 pub enum SendAnswer {
     Sends(u8),
-    RefusedState,
+    Refused(Refusal),
 }
 
 // What one half-cycle of a station answers.
 pub enum TurnAnswer {
     Going,
     Done,
-    RefusedHalf,
-    RefusedState,
-    RefusedDraw,
-    // Sent 1, heard 0.
-    RefusedFault,
+    Refused(Refusal),
 }
 
 pub struct Turn {
@@ -63,7 +61,7 @@ pub struct Turn {
     pub next: Station,
 }
 
-// A station's numbers after a half-cycle. Where it is done it has sent its whole burst, and is empty.
+// The numbers of a station with a message after a half-cycle. Where it is done it has sent its whole burst, and is empty.
 pub struct Move {
     pub done: bool,
     pub wait: u8,
@@ -100,8 +98,19 @@ pub fn draw_ok(draw: u8) -> bool
 fn burst_length(m: Message) -> u8
     ensures { λ r. ⌜ r ≡ burstLength m ⌝ }
 {
-    let frame = frame_length(m);
-    (frame + frame) as u8
+    match m {
+        Message::Address { house: _, unit: _ } => 44,
+        Message::Function {
+            house: _,
+            function: _,
+        } => 44,
+        Message::Extended {
+            house: _,
+            unit: _,
+            data: _,
+            command: _,
+        } => 124,
+    }
 }
 
 // The half-cycle at a place of the frame that carries these bits: the start 1 1 1 0, then each bit and its complement.
@@ -124,22 +133,26 @@ fn frame_half(word: u32, bits: u32, place: u32) -> u8
     }
 }
 
-// The half-cycle at a place of a message's burst, from the message's bits: no burst is kept.
+// The half-cycle at a place of a valid message's burst, from the message's bits: no burst is kept. A valid message has bits.
 fn half_at(m: Message, place: u8) -> u8
-    requires { ⌜ place < burstLength m ⌝ }
+    requires { ⌜ (messageOk m ≡ true) × (place < burstLength m) ⌝ }
     ensures { λ r. ⌜ r ≡ getD (burstOf m) place 0 ⌝ }
 {
-    let bits = bit_count(m) as u32;
-    let frame = 4 + (bits + bits);
-    let mut at = place as u32;
-    if frame <= at {
-        at -= frame;
+    match word_of(m) {
+        WordAnswer::Refused(_) => 0,
+        WordAnswer::Word(word) => {
+            let frame = 4 + (word.count + word.count);
+            let mut at = place as u32;
+            if frame <= at {
+                at -= frame;
+            }
+            frame_half(word.bits, word.count, at)
+        }
     }
-    frame_half(word_of(m), bits, at)
 }
 
 // Whether a station is in a state that there is and sends nothing: it is empty, or it waits.
-pub fn idle(s: Station) -> bool
+pub(crate) fn idle(s: Station) -> bool
     ensures { λ r. ⌜ r ≡ idleOf s ⌝ }
 {
     let held = s.held;
@@ -152,45 +165,45 @@ pub fn idle(s: Station) -> bool
 
 // What a station sends in this half-cycle: 0 where it is idle, else it holds a message and its count has come to its wait.
 pub fn sends(s: Station) -> SendAnswer
-    ensures { λ o. ⌜ o ≡ sendOf s ⌝ }
-    ensures { λ o. ⌜ sentBy o ≡ sentOf s ⌝ }
+    ensures answer { λ o. ⌜ o ≡ sendOf s ⌝ }
+    ensures report { λ o. ⌜ sendReport o ≡ judged (sendCauses s) (reports (sendsOf s ∷ [])) refuses ⌝ }
 {
     if idle(s) {
         return SendAnswer::Sends(0);
     }
     let held = s.held;
     match held {
-        Held::Empty => SendAnswer::RefusedState,
+        Held::Empty => SendAnswer::Refused(Refusal::State),
         Held::Holds(m) => {
             let sane = draw_ok(s.wait) & message::valid(m);
             if sane & ((s.count == s.wait) & (s.place < burst_length(m))) {
                 return SendAnswer::Sends(half_at(m, s.place));
             }
-            SendAnswer::RefusedState
+            SendAnswer::Refused(Refusal::State)
         }
     }
 }
 
 // Gives an empty station a message and a wait.
 pub fn load(s: Station, m: Message, draw: u8) -> Loading
-    ensures { λ o. ⌜ o ≡ loadOf s m draw ⌝ }
-    ensures { λ o. ⌜ loadNumber (o .answer) ≡ loadRefusal s m draw ⌝ }
+    ensures answer { λ o. ⌜ o ≡ loadOf s m draw ⌝ }
+    ensures report { λ o. ⌜ loadReport (o .answer) ≡ judged (loadCauses s m draw) (reports []) refuses ⌝ }
 {
     if !message::valid(m) {
         return Loading {
-            answer: LoadAnswer::RefusedMessage,
+            answer: LoadAnswer::Refused(Refusal::Message),
             next: s,
         };
     }
     if !station_ok(s) {
         return Loading {
-            answer: LoadAnswer::RefusedState,
+            answer: LoadAnswer::Refused(Refusal::State),
             next: s,
         };
     }
     if !draw_ok(draw) {
         return Loading {
-            answer: LoadAnswer::RefusedDraw,
+            answer: LoadAnswer::Refused(Refusal::Draw),
             next: s,
         };
     }
@@ -201,7 +214,7 @@ pub fn load(s: Station, m: Message, draw: u8) -> Loading
             next: at_start(Held::Holds(m), draw),
         },
         Held::Holds(_) => Loading {
-            answer: LoadAnswer::RefusedBusy,
+            answer: LoadAnswer::Refused(Refusal::Busy),
             next: s,
         },
     }
@@ -213,14 +226,18 @@ fn station_ok(s: Station) -> bool
 {
     match sends(s) {
         SendAnswer::Sends(_) => true,
-        SendAnswer::RefusedState => false,
+        SendAnswer::Refused(_) => false,
     }
 }
 
-// The numbers of a station with a message after a half-cycle in which it sent, and heard. Nothing is judged: a bench judges all of
-// its stations before it moves one.
-pub fn moves(m: Message, s: Station, sent: u8, heard: u8, draw: u8) -> Move
-    ensures { λ r. ⌜ r ≡ moveOf m s sent heard draw ⌝ }
+// The numbers of a judged station with a message after a half-cycle in which it sent, and heard: a bench judges all of its stations
+// before it moves one.
+pub(crate) fn moves(m: Message, s: Station, sent: u8, heard: u8, draw: u8) -> Move
+    requires { ⌜ s .held ≡ Holds m ⌝ }
+    requires { ⌜ (stationOk s ≡ true) × (drawOk draw ≡ true) ⌝ }
+    requires { ⌜ sendsOf s ≡ sent ⌝ }
+    requires { ⌜ (sent ≤ heard) × (heard ≤ 1) ⌝ }
+    ensures { λ v. ⌜ turnOf s heard draw ≡ turnBy (Holds m) v ⌝ }
 {
     if sent != heard {
         return Move {
@@ -256,30 +273,30 @@ pub fn moves(m: Message, s: Station, sent: u8, heard: u8, draw: u8) -> Move
 
 // One half-cycle of a station, with what it heard and a draw.
 pub fn advance(s: Station, heard: u8, draw: u8) -> Turn
-    ensures { λ o. ⌜ o ≡ turnOf s heard draw ⌝ }
-    ensures { λ o. ⌜ turnNumber (o .answer) ≡ turnRefusal s heard draw ⌝ }
+    ensures answer { λ o. ⌜ o ≡ turnOf s heard draw ⌝ }
+    ensures report { λ o. ⌜ turnReport (o .answer) ≡ judged (turnCauses s heard draw) (reports (isDone (heldMoves (s .held) s heard draw .answer) ∷ [])) refuses ⌝ }
 {
     if 1 < heard {
         return Turn {
-            answer: TurnAnswer::RefusedHalf,
+            answer: TurnAnswer::Refused(Refusal::Half),
             next: s,
         };
     }
     match sends(s) {
-        SendAnswer::RefusedState => Turn {
-            answer: TurnAnswer::RefusedState,
+        SendAnswer::Refused(_) => Turn {
+            answer: TurnAnswer::Refused(Refusal::State),
             next: s,
         },
         SendAnswer::Sends(sent) => {
             if !draw_ok(draw) {
                 return Turn {
-                    answer: TurnAnswer::RefusedDraw,
+                    answer: TurnAnswer::Refused(Refusal::Draw),
                     next: s,
                 };
             }
             if heard < sent {
                 return Turn {
-                    answer: TurnAnswer::RefusedFault,
+                    answer: TurnAnswer::Refused(Refusal::Fault),
                     next: s,
                 };
             }

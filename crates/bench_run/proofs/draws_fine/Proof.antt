@@ -4,7 +4,7 @@ use Prim.Native.Nat.{_-_, _≤_}
 use native.Mathlib.Omega.{arith}
 use borrow.Author.Tests.{not-true, not-false}
 use lib.ListN.{length, drop, drop-of-length-le}
-use Rattle.bench.specs.Benches.{drawsOk}
+use Rattle.station.specs.Benches.{drawsOk}
 use borrow.Author.Needs.{needs}
 use Rattle.bench_run.proofs.LoadLaws.{draws-cons}
 use Rattle.bench_run.proofs.draws_fine.Statement.{statement}

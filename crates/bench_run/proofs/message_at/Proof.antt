@@ -36,7 +36,7 @@ message-from-requires : tie.Need-message-from-requires
 message-from-requires c κs = search needs
 
 returns : tie.Need-returns
-returns c = simp (getD-drop, add-zero) (c .message-from .ensures)
+returns c = simp (getD-drop, add-zero) (c .message-from .ensures .0)
 
 pub message-at-spec : {M : Type 1} → statement M
 message-at-spec =

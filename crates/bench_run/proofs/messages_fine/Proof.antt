@@ -5,7 +5,7 @@ use native.Mathlib.Omega.{arith}
 use borrow.Author.Tests.{not-true, not-false}
 use lib.ListN.{length, drop}
 use borrow.Author.Needs.{needs}
-use Rattle.bench_run.specs.BenchRuns.{saysOk, allSay}
+use Rattle.bench_run.specs.BenchRuns.{saysMessage, allSay}
 use Rattle.bench_run.proofs.LoadLaws.{say-cons}
 use Rattle.bench_run.proofs.messages_fine.Statement.{statement}
 use Rattle.bench_run.proofs.messages_fine.Tie as tie
@@ -29,14 +29,14 @@ mul-message-at c = omega arith
 message-at-requires : tie.Need-message-at-requires Inv-loop μ-loop
 message-at-requires c κs = omega arith
 
-says-ok-requires : tie.Need-says-ok-requires Inv-loop μ-loop
-says-ok-requires c κs = search needs
+says-message-requires : tie.Need-says-message-requires Inv-loop μ-loop
+says-message-requires c κs = search needs
 
 returns : tie.Need-returns Inv-loop μ-loop
 returns c =
     let now = c .before .before .before .before .loop in
     let bytes = c .before .before .before .before .before .before .args .messages .now in
-    sym (sym (now .inv .1) ∙ say-cons (length bytes / 5) (now .i) bytes (c .before .before .before .loop-test .taken) ∙ rw (ap saysOk (sym (c .before .before .message-at .ensures)) ∙ sym (c .before .says-ok .ensures) ∙ not-true _ (c .if1 .taken)))
+    sym (sym (now .inv .1) ∙ say-cons (length bytes / 5) (now .i) bytes (c .before .before .before .loop-test .taken) ∙ rw (ap saysMessage (sym (c .before .before .message-at .ensures)) ∙ sym (c .before .says-message .ensures) ∙ not-true _ (c .if1 .taken)))
 
 add-i : tie.Need-add-i Inv-loop μ-loop
 add-i c = omega arith
@@ -48,7 +48,7 @@ loop-again : tie.Need-loop-again Inv-loop μ-loop
 loop-again c =
     let now = c .before .before .before .before .loop in
     let bytes = c .before .before .before .before .before .before .args .messages .now in
-    (omega arith, sym (say-cons (length bytes / 5) (now .i) bytes (c .before .before .before .loop-test .taken) ∙ rw (ap saysOk (sym (c .before .before .message-at .ensures)) ∙ sym (c .before .says-ok .ensures) ∙ not-false _ (c .if1 .left))) ∙ now .inv .1)
+    (omega arith, sym (say-cons (length bytes / 5) (now .i) bytes (c .before .before .before .loop-test .taken) ∙ rw (ap saysMessage (sym (c .before .before .message-at .ensures)) ∙ sym (c .before .says-message .ensures) ∙ not-false _ (c .if1 .left))) ∙ now .inv .1)
 
 returns-2 : tie.Need-returns-2 Inv-loop μ-loop
 unfolding allSay
@@ -67,7 +67,7 @@ messages-fine-spec =
     loop-holds
     mul-message-at
     message-at-requires
-    says-ok-requires
+    says-message-requires
     returns
     add-i
     loop-less

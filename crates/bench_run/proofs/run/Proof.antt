@@ -1,104 +1,100 @@
--- `run` meets its contract: the tests are those of `runNumber`, in its order; the quotient and the remainder stand for a product that could wrap.
-use mathlib.Core.Path.{_≡_, refl, sym, _∙_}
+-- `run` meets its contract: the tests are those of `runCauses`, in its order; the quotient and the remainder stand for a product that could wrap.
+use mathlib.Core.Path.{_≡_, sym}
 use Prim.Native.Nat.{_*_}
 use native.Mathlib.Omega.{arith}
-use borrow.Author.Tests.{eq-eqb, ne-eqb, le-leb, lt-leb, not-true, not-false}
+use borrow.Author.Tests.{ne-eqb, le-leb, lt-leb}
 use lib.ListN.{length}
-use Rattle.message.specs.Numbers.{NONE, MESSAGE, STATE, DRAW, SHORT}
-use Rattle.bench_run.specs.BenchRuns.{lent, runNumber}
-use Rattle.bench_run.proofs.RunNumbers.{draws-match, draws-differ, run-refused, run-done}
+use Rattle.ground.specs.Refusals.{judged, numberGiven, refusalNumber}
+use Rattle.ground.specs.declared.CountAnswer.the-variants.{Refused}
+use Rattle.ground.specs.declared.Refusal.the-variants as refusal
+use Rattle.ground.proofs.Causes.{ladder}
+use Rattle.bench_run.specs.BenchRuns.{Lent, lent, runCauses, runAnswer}
+use Rattle.bench_run.proofs.RunLaws.{draws-match, draws-differ, run-refused, run-done}
 use borrow.Author.Needs.{needs}
 use Rattle.bench_run.proofs.run.Statement.{statement}
 use Rattle.bench_run.proofs.run.Tie as tie
+
+-- what is lent
+abbrev lentAt : tie.Start → Lent
+lentAt c = let a = c .args in lent (a .messages .now) (a .loads .now) (a .draws .now) (a .lines .now) (a .marks .now)
 
 messages-fine-requires : tie.Need-messages-fine-requires
 messages-fine-requires c κs = search needs
 
 returns : tie.Need-returns
-unfolding runNumber
+unfolding runAnswer
 returns c =
-    let a = c .before .before .before .before .before .before .before .args in
-    let l = lent (a .messages .now) (a .loads .now) (a .draws .now) (a .lines .now) (a .marks .now) in
-    let n = length (l .loads) in
-    run-refused l MESSAGE (simp (sym (c .before .messages-fine .ensures) ∙ not-true _ (c .if1 .taken))) refl
+    let l = lentAt (c .before .before .before .before .before .before .before) in
+    run-refused l refusal.Message (search ladder depth 12 fits 4000)
 
 returns-2 : tie.Need-returns-2
-unfolding runNumber
+unfolding runAnswer
 returns-2 c =
-    let a = c .before .before .before .before .before .before .before .before .args in
-    let l = lent (a .messages .now) (a .loads .now) (a .draws .now) (a .lines .now) (a .marks .now) in
-    let n = length (l .loads) in
-    run-refused l STATE (simp (sym (c .before .before .messages-fine .ensures) ∙ not-false _ (c .before .if1 .left), lt-leb 1 n (omega (arith, c .if2 .taken)))) refl
+    let l = lentAt (c .before .before .before .before .before .before .before .before) in
+    run-refused l refusal.State (search ladder depth 12 fits 4000)
 
 returns-3 : tie.Need-returns-3
-unfolding runNumber
+unfolding runAnswer
 returns-3 c =
-    let a = c .before .before .before .before .before .before .before .before .before .args in
-    let l = lent (a .messages .now) (a .loads .now) (a .draws .now) (a .lines .now) (a .marks .now) in
-    let n = length (l .loads) in
-    run-refused l STATE (simp (sym (c .before .before .before .messages-fine .ensures) ∙ not-false _ (c .before .before .if1 .left), le-leb 1 n (omega (arith, c .before .if2 .left)), lt-leb n 16 (c .if3 .taken))) refl
+    let l = lentAt (c .before .before .before .before .before .before .before .before .before) in
+    run-refused l refusal.State (search ladder depth 12 fits 4000)
 
 mul-if4 : tie.Need-mul-if4
 mul-if4 c = search needs
 
 returns-4 : tie.Need-returns-4
-unfolding runNumber
+unfolding runAnswer
 returns-4 c =
-    let a = c .before .before .before .before .before .before .before .before .before .before .args in
-    let l = lent (a .messages .now) (a .loads .now) (a .draws .now) (a .lines .now) (a .marks .now) in
-    let n = length (l .loads) in
-    run-refused l STATE (simp (sym (c .before .before .before .before .messages-fine .ensures) ∙ not-false _ (c .before .before .before .if1 .left), le-leb 1 n (omega (arith, c .before .before .if2 .left)), le-leb n 16 (omega (arith, c .before .if3 .left)), ne-eqb (length (l .messages)) (5 * n) (c .if4 .taken))) refl
+    let l = lentAt (c .before .before .before .before .before .before .before .before .before .before) in
+    run-refused l refusal.State (search ladder depth 12 fits 4000)
 
 draws-fine-requires : tie.Need-draws-fine-requires
 draws-fine-requires c κs = search needs
 
 returns-5 : tie.Need-returns-5
-unfolding runNumber
+unfolding runAnswer
 returns-5 c =
-    let a = c .before .before .before .before .before .before .before .before .before .before .before .before .args in
-    let l = lent (a .messages .now) (a .loads .now) (a .draws .now) (a .lines .now) (a .marks .now) in
-    let n = length (l .loads) in
-    run-refused l DRAW (simp (sym (c .before .before .before .before .before .before .messages-fine .ensures) ∙ not-false _ (c .before .before .before .before .before .if1 .left), le-leb 1 n (omega (arith, c .before .before .before .before .if2 .left)), le-leb n 16 (omega (arith, c .before .before .before .if3 .left)), eq-eqb (length (l .messages)) (5 * n) (c .before .before .if4 .left), sym (c .before .draws-fine .ensures) ∙ not-true _ (c .if5 .taken))) refl
+    let l = lentAt (c .before .before .before .before .before .before .before .before .before .before .before .before) in
+    run-refused l refusal.Draw (search ladder depth 12 fits 4000)
 
 div-if6 : tie.Need-div-if6
 div-if6 c = search needs
 
 returns-6 : tie.Need-returns-6
-unfolding runNumber
+unfolding runAnswer
 returns-6 c =
-    let a = c .before .before .before .before .before .before .before .before .before .before .before .before .before .args in
-    let l = lent (a .messages .now) (a .loads .now) (a .draws .now) (a .lines .now) (a .marks .now) in
-    let n = length (l .loads) in
-    run-refused l SHORT (simp (sym (c .before .before .before .before .before .before .before .messages-fine .ensures) ∙ not-false _ (c .before .before .before .before .before .before .if1 .left), le-leb 1 n (omega (arith, c .before .before .before .before .before .if2 .left)), le-leb n 16 (omega (arith, c .before .before .before .before .if3 .left)), eq-eqb (length (l .messages)) (5 * n) (c .before .before .before .if4 .left), sym (c .before .before .draws-fine .ensures) ∙ not-false _ (c .before .if5 .left), ne-eqb (length (l .draws)) (n * length (l .lines)) (λ e. c .if6 .taken (draws-differ n (length (l .draws)) (length (l .lines)) (omega (arith, c .before .before .before .before .before .if2 .left)) e .0)))) refl
+    let l = lentAt (c .before .before .before .before .before .before .before .before .before .before .before .before .before) in
+    let differ = draws-differ (length (l .loads)) (length (l .draws)) (length (l .lines)) (omega (arith, c .before .before .before .before .before .if2 .left)) in
+    let wrong = ne-eqb (length (l .draws)) (length (l .loads) * length (l .lines)) (λ e. c .if6 .taken (differ e .0)) in
+    run-refused l refusal.Short (search ladder depth 12 fits 4000)
 
 rem-if7 : tie.Need-rem-if7
 rem-if7 c = search needs
 
 returns-7 : tie.Need-returns-7
-unfolding runNumber
+unfolding runAnswer
 returns-7 c =
-    let a = c .before .before .before .before .before .before .before .before .before .before .before .before .before .before .args in
-    let l = lent (a .messages .now) (a .loads .now) (a .draws .now) (a .lines .now) (a .marks .now) in
-    let n = length (l .loads) in
-    run-refused l SHORT (simp (sym (c .before .before .before .before .before .before .before .before .messages-fine .ensures) ∙ not-false _ (c .before .before .before .before .before .before .before .if1 .left), le-leb 1 n (omega (arith, c .before .before .before .before .before .before .if2 .left)), le-leb n 16 (omega (arith, c .before .before .before .before .before .if3 .left)), eq-eqb (length (l .messages)) (5 * n) (c .before .before .before .before .if4 .left), sym (c .before .before .before .draws-fine .ensures) ∙ not-false _ (c .before .before .if5 .left), ne-eqb (length (l .draws)) (n * length (l .lines)) (λ e. c .if7 .taken (draws-differ n (length (l .draws)) (length (l .lines)) (omega (arith, c .before .before .before .before .before .before .if2 .left)) e .1)))) refl
+    let l = lentAt (c .before .before .before .before .before .before .before .before .before .before .before .before .before .before) in
+    let differ = draws-differ (length (l .loads)) (length (l .draws)) (length (l .lines)) (omega (arith, c .before .before .before .before .before .before .if2 .left)) in
+    let wrong = ne-eqb (length (l .draws)) (length (l .loads) * length (l .lines)) (λ e. c .if7 .taken (differ e .1)) in
+    run-refused l refusal.Short (search ladder depth 12 fits 4000)
 
 returns-8 : tie.Need-returns-8
-unfolding runNumber
+unfolding runAnswer
 returns-8 c =
-    let a = c .before .before .before .before .before .before .before .before .before .before .before .before .before .before .before .args in
-    let l = lent (a .messages .now) (a .loads .now) (a .draws .now) (a .lines .now) (a .marks .now) in
-    let n = length (l .loads) in
-    run-refused l SHORT (simp (sym (c .before .before .before .before .before .before .before .before .before .messages-fine .ensures) ∙ not-false _ (c .before .before .before .before .before .before .before .before .if1 .left), le-leb 1 n (omega (arith, c .before .before .before .before .before .before .before .if2 .left)), le-leb n 16 (omega (arith, c .before .before .before .before .before .before .if3 .left)), eq-eqb (length (l .messages)) (5 * n) (c .before .before .before .before .before .if4 .left), sym (c .before .before .before .before .draws-fine .ensures) ∙ not-false _ (c .before .before .before .if5 .left), eq-eqb (length (l .draws)) (n * length (l .lines)) (draws-match n (length (l .draws)) (length (l .lines)) (c .before .before .if6 .left) (c .before .if7 .left)), lt-leb (2 * length (l .lines)) (length (l .marks)) (omega (arith, c .if8 .taken)))) refl
+    let l = lentAt (c .before .before .before .before .before .before .before .before .before .before .before .before .before .before .before) in
+    let draws = draws-match (length (l .loads)) (length (l .draws)) (length (l .lines)) (c .before .before .if6 .left) (c .before .if7 .left) in
+    let short = lt-leb (2 * length (l .lines)) (length (l .marks)) (omega (arith, c .if8 .taken)) in
+    run-refused l refusal.Short (search ladder depth 12 fits 4000)
 
 slots-from-requires : tie.Need-slots-from-requires
 slots-from-requires c κs = search needs
 
 run-all-requires : tie.Need-run-all-requires
 run-all-requires c κs =
-    let a = c .before .before .before .before .before .before .before .before .before .before .before .before .before .before .before .before .before .before .args in
-    let l = lent (a .messages .now) (a .loads .now) (a .draws .now) (a .lines .now) (a .marks .now) in
-    let n = length (l .loads) in
-    (omega (arith, c .before .before .before .before .before .before .before .before .before .if3 .left), draws-match n (length (l .draws)) (length (l .lines)) (c .before .before .before .before .before .if6 .left) (c .before .before .before .before .if7 .left), omega (arith, c .before .before .before .if8 .left))
+    let l = lentAt (c .before .before .before .before .before .before .before .before .before .before .before .before .before .before .before .before .before .before) in
+    let whole = draws-match (length (l .loads)) (length (l .draws)) (length (l .lines)) (c .before .before .before .before .before .if6 .left) (c .before .before .before .before .if7 .left) in
+    (omega (arith, c .before .before .before .before .before .before .before .before .before .if3 .left), whole, omega (arith, c .before .before .before .if8 .left))
 
 same-length : tie.Need-same-length
 same-length c = search needs
@@ -107,14 +103,13 @@ same-length-2 : tie.Need-same-length-2
 same-length-2 c = search needs
 
 returns-9 : tie.Need-returns-9
-unfolding runNumber
 returns-9 c =
-    let a = c .before .before .before .before .before .before .before .before .before .before .before .before .before .before .before .before .before .before .before .before .before .before .before .args in
-    let l = lent (a .messages .now) (a .loads .now) (a .draws .now) (a .lines .now) (a .marks .now) in
-    let n = length (l .loads) in
-    let none : runNumber l ≡ NONE = simp (sym (c .before .before .before .before .before .before .before .before .before .before .before .before .before .before .before .before .before .messages-fine .ensures) ∙ not-false _ (c .before .before .before .before .before .before .before .before .before .before .before .before .before .before .before .before .if1 .left), le-leb 1 n (omega (arith, c .before .before .before .before .before .before .before .before .before .before .before .before .before .before .before .if2 .left)), le-leb n 16 (omega (arith, c .before .before .before .before .before .before .before .before .before .before .before .before .before .before .if3 .left)), eq-eqb (length (l .messages)) (5 * n) (c .before .before .before .before .before .before .before .before .before .before .before .before .before .if4 .left), sym (c .before .before .before .before .before .before .before .before .before .before .before .before .draws-fine .ensures) ∙ not-false _ (c .before .before .before .before .before .before .before .before .before .before .before .if5 .left), eq-eqb (length (l .draws)) (n * length (l .lines)) (draws-match n (length (l .draws)) (length (l .lines)) (c .before .before .before .before .before .before .before .before .before .before .if6 .left) (c .before .before .before .before .before .before .before .before .before .if7 .left)), le-leb (2 * length (l .lines)) (length (l .marks)) (omega (arith, c .before .before .before .before .before .before .before .before .if8 .left))) in
-    run-done l (c .before .before .before .before .before .before .before .slots-from .result) (c .before .before .before .before .run-all .result) _ _ none
-    (c .before .before .before .before .before .before .before .slots-from .ensures) (c .before .before .before .before .run-all .ensures)
+    let early = c .before .before .before .before .before .before .before .before in
+    let l = lentAt (c .before .before .before .before .before .before .before .before .before .before .before .before .before .before .before .before .before .before .before .before .before .before .before) in
+    let draws = draws-match (length (l .loads)) (length (l .draws)) (length (l .lines)) (early .before .before .if6 .left) (early .before .if7 .left) in
+    let marks = le-leb (2 * length (l .lines)) (length (l .marks)) (omega (arith, early .if8 .left)) in
+    let none : 0 ≡ judged (runCauses l) 0 refusalNumber = search ladder depth 12 fits 4000 in
+    run-done l (c .before .before .before .before .before .before .before .slots-from .result) (c .before .before .before .before .run-all .result) _ _ (c .before .before .before .before .before .before .before .slots-from .ensures) (c .before .before .before .before .run-all .ensures) (sym none)
 
 pub run-spec : {M : Type 1} → statement M
 run-spec =

@@ -1,5 +1,5 @@
--- `run_all` meets its contract. The loop's invariant (`Going`): the calls that are left would fill lines and marks, and bring the count, to where
--- all calls bring them. A turn makes the first of them.
+-- `run_all` meets its contract. The loop's invariant (`Going`): after j calls lines and marks hold what those calls gave, and the stations and the
+-- count are where they lead. A turn makes one call more.
 use Prim.Native.Nat.{_-_, _*_, _≤_}
 use native.Mathlib.Omega.{arith}
 use lib.ListN.{length, length-set}
@@ -10,20 +10,21 @@ use Rattle.bench_run.proofs.run_all.Tie as tie
 
 abbrev Inv-loop : tie.InvT-loop
 Inv-loop n draws lines₀ marks₀ turn₀ count₀ at₀ j₀ lines marks turn count at j =
-    Going n (turn₀ .slots) draws lines₀ marks₀ lines marks (turn .slots) count at j × (n ≤ 16) × (2 * length lines₀ ≤ length marks₀)
+    Going n (turn₀ .slots) draws lines₀ marks₀ lines marks (turn .slots) count at j
 
 abbrev μ-loop : tie.MeasureT-loop
 μ-loop n draws lines₀ marks₀ turn₀ count₀ at₀ j₀ lines marks turn count at j = length lines₀ - j
 
 loop-holds : tie.Need-loop-holds Inv-loop μ-loop
-loop-holds c = let a = c .before .before .before .args in (going-first (a .n) (a .slots) (a .draws .now) (a .lines .now) (a .marks .now) (c .before .before .before .pre .1), c .before .before .before .pre .0, c .before .before .before .pre .2)
+loop-holds c =
+    let a = c .before .before .before .args in
+    let p = c .before .before .before .pre in
+    going-first (a .n) (a .slots) (a .draws .now) (a .lines .now) (a .marks .now) (p .0) (p .1) (p .2)
 
 draws-at-requires : tie.Need-draws-at-requires Inv-loop μ-loop
 draws-at-requires c κs =
     let now = c .before .before .loop in
-    let a = c .before .before .before .before .before .before .args in
-    let there = draws-left (a .n) (a .slots) (a .draws .now) (a .lines .now) (a .marks .now) (now .lines) (now .marks) (now .turn .slots) (now .count) (now .at) (now .j) (now .inv .0) (omega (arith, now .inv .0 .lines-long)) in
-    (now .inv .1, omega (arith, there))
+    (now .inv .most, draws-left (now .inv) (omega (arith, now .inv .lines-long)))
 
 half-cycle-requires : tie.Need-half-cycle-requires Inv-loop μ-loop
 half-cycle-requires c κs = search needs
@@ -65,7 +66,9 @@ add-count : tie.Need-add-count Inv-loop μ-loop
 add-count c = omega arith
 
 add-at : tie.Need-add-at Inv-loop μ-loop
-add-at c = omega arith
+add-at c =
+    let now = c .before .before .before .before .before .before .before .before .loop in
+    omega (arith, draws-left (now .inv) (omega (arith, now .inv .lines-long)))
 
 add-j : tie.Need-add-j Inv-loop μ-loop
 add-j c = omega arith
@@ -76,24 +79,19 @@ loop-less c = omega arith
 loop-again : tie.Need-loop-again Inv-loop μ-loop
 loop-again c =
     let now = c .before .before .before .before .before .before .before .before .loop in
-    let a = c .before .before .before .before .before .before .before .before .before .before .before .before .args in
-    let next =
-    going-next (a .n) (a .slots) (a .draws .now) (a .lines .now) (a .marks .now) (now .lines) (now .marks) (now .turn .slots) (now .count) (now .at) (now .j) (now .inv .0) (omega (arith, now .inv .0 .lines-long))
-    (c .before .before .before .before .half-cycle .result) (c .before .before .before .before .before .draws-at .result) (c .before .before .before .before .half-cycle .ensures .0) (c .before .before .before .before .before .draws-at .ensures)
-    (c .before .before .line-byte .result) (c .before .mask-of .result) (c .counts-as .result) (c .before .before .line-byte .ensures) (c .before .mask-of .ensures) (c .counts-as .ensures) in
-    (next, now .inv .1, now .inv .2)
+    going-next (now .inv) (omega (arith, now .inv .lines-long))
+    (c .before .before .before .before .half-cycle .result) (c .before .before .before .before .before .draws-at .result)
+    (c .before .before .before .before .half-cycle .ensures .0) (c .before .before .before .before .before .draws-at .ensures)
+    (c .before .before .line-byte .ensures) (c .before .mask-of .ensures) (c .counts-as .ensures)
 
 same-length : tie.Need-same-length Inv-loop μ-loop
-same-length c = c .before .loop .inv .0 .lines-long
+same-length c = c .before .loop .inv .lines-long
 
 same-length-2 : tie.Need-same-length-2 Inv-loop μ-loop
-same-length-2 c = c .before .loop .inv .0 .marks-long
+same-length-2 c = c .before .loop .inv .marks-long
 
 returns : tie.Need-returns Inv-loop μ-loop
-returns c =
-    let now = c .before .loop in
-    let a = c .before .before .before .before .before .args in
-    going-last (a .n) (a .slots) (a .draws .now) (a .lines .now) (a .marks .now) (now .lines) (now .marks) (now .turn .slots) (now .count) (now .at) (now .j) (now .inv .0) (omega (arith, now .inv .0 .lines-long, c .loop-test .left)) (now .inv .2)
+returns c = let now = c .before .loop in going-last (now .inv) (omega (arith, now .inv .lines-long, c .loop-test .left))
 
 pub run-all-spec : {M : Type 1} → statement M
 run-all-spec =

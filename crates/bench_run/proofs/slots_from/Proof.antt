@@ -8,7 +8,7 @@ use lib.ListN.{length, getD, set, drop, replicate, length-set, drop-of-length-le
 use lib.Seq.{sets}
 use borrow.Author.Needs.{needs}
 use Rattle.station.specs.declared.Station.{Station}
-use Rattle.bench.specs.Benches.{mostStations}
+use Rattle.station.specs.Benches.{mostStations}
 use Rattle.wire.specs.Messages.{messageIn}
 use Rattle.wire.specs.declared.MessageRead.{MessageRead}
 use Rattle.bench_run.specs.BenchRuns.{loadedBy, benchFrom}

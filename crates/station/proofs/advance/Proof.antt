@@ -1,10 +1,9 @@
 -- `advance` meets its contract: the tests are those of `turnOf`, in its order, and what is left is the judged station's move.
 use mathlib.Core.Path.{sym, _∙_}
-use borrow.Author.Tests.{le-leb, lt-leb}
 use Rattle.station.specs.Stations.{turnOf}
-use Rattle.station.proofs.Judged.{bad, fine}
-use Rattle.station.proofs.NumberLaws.{turn-promise}
-use Rattle.station.proofs.TurnLaws.{sends-told, refused-told}
+use Rattle.ground.proofs.Causes.{ladder, fine}
+use Rattle.station.proofs.SendLaws.{fault-told}
+use Rattle.station.proofs.TurnLaws.{sends-told, refused-told, turn-promise}
 use borrow.Author.Needs.{needs}
 use Rattle.station.proofs.advance.Statement.{statement}
 use Rattle.station.proofs.advance.Tie as tie
@@ -13,8 +12,7 @@ returns : tie.Need-returns
 unfolding turnOf
 returns c =
     let a = c .before .args in
-    turn-promise (a .s) (a .heard) (a .draw)
-    (rw (lt-leb (a .heard) 1 (c .if1 .taken)))
+    turn-promise (a .s) (a .heard) (a .draw) (search ladder)
 
 sends-requires : tie.Need-sends-requires
 sends-requires c κs = search needs
@@ -32,34 +30,33 @@ returns-2 : tie.Need-returns-2
 unfolding turnOf
 returns-2 c =
     let a = c .before .before .before .before .before .before .before .args in
-    let told = sends-told (a .s) (c .before .before .before .sent .given .0 .0) (sym (c .before .before .before .before .before .sends .ensures .0) ∙ c .before .before .before .sent .given .1) in
-    turn-promise (a .s) (a .heard) (a .draw)
-    (rw (le-leb (a .heard) 1 (c .before .before .before .before .before .before .if1 .left), told .0, bad (c .before .draw-ok .ensures) (c .if2 .taken)))
+    let told = sends-told _ _ (sym (c .before .before .before .before .before .sends .ensures .0) ∙ c .before .before .before .sent .given .1) in
+    turn-promise (a .s) (a .heard) (a .draw) (search ladder depth 8)
 
 returns-3 : tie.Need-returns-3
 unfolding turnOf
 returns-3 c =
     let a = c .before .before .before .before .before .before .before .before .args in
-    let told = sends-told (a .s) (c .before .before .before .before .sent .given .0 .0) (sym (c .before .before .before .before .before .before .sends .ensures .0) ∙ c .before .before .before .before .sent .given .1) in
-    turn-promise (a .s) (a .heard) (a .draw)
-    (rw (le-leb (a .heard) 1 (c .before .before .before .before .before .before .before .if1 .left), told .0, fine (c .before .before .draw-ok .ensures) (c .before .if2 .left), told .1, lt-leb _ _ (c .if3 .taken)))
+    let told = sends-told _ _ (sym (c .before .before .before .before .before .before .sends .ensures .0) ∙ c .before .before .before .before .sent .given .1) in
+    let wrong = fault-told (a .s) (a .heard) (told .1) (c .if3 .taken) in
+    turn-promise (a .s) (a .heard) (a .draw) (search ladder depth 8)
 
 moved-requires : tie.Need-moved-requires
 moved-requires c κs =
-    let a = c .before .before .before .before .before .before .before .before .args in
-    let told = sends-told (a .s) (c .before .before .before .before .sent .given .0 .0) (sym (c .before .before .before .before .before .before .sends .ensures .0) ∙ c .before .before .before .before .sent .given .1) in
+    let told = sends-told _ _ (sym (c .before .before .before .before .before .before .sends .ensures .0) ∙ c .before .before .before .before .sent .given .1) in
     ((told .0, fine (c .before .before .draw-ok .ensures) (c .before .if2 .left)), (told .1, (c .if3 .left, c .before .before .before .before .before .before .before .if1 .left)))
 
 returns-4 : tie.Need-returns-4
 unfolding turnOf
 returns-4 c =
     let a = c .before .before .before .before .args in
-    turn-promise (a .s) (a .heard) (a .draw)
-    (rw (le-leb (a .heard) 1 (c .before .before .before .if1 .left), refused-told (a .s) (sym (c .before .before .sends .ensures .0) ∙ c .enum-told .given .1)))
+    let bad = refused-told _ _ (sym (c .before .before .sends .ensures .0) ∙ c .enum-told .given .1) in
+    turn-promise (a .s) (a .heard) (a .draw) (search ladder depth 8)
 
 returns-5 : tie.Need-returns-5
 returns-5 c =
-    let a = c .before .before .before .before .before .before .before .before .before .args in turn-promise (a .s) (a .heard) (a .draw) (c .moved .ensures)
+    let a = c .before .before .before .before .before .before .before .before .before .args in
+    turn-promise (a .s) (a .heard) (a .draw) (c .moved .ensures)
 
 pub advance-spec : {M : Type 1} → statement M
 advance-spec =

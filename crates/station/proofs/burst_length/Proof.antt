@@ -1,21 +1,25 @@
--- `burst_length` meets its contract: a frame has no more than 62 half-cycles, so its burst's length is a small number.
-use native.Mathlib.Omega.{arith}
-use Rattle.burst.proofs.Writing.{frame-at-most}
+-- `burst_length` meets its contract: the length by the kind of message.
 use borrow.Author.Needs.{needs}
 use Rattle.station.proofs.burst_length.Statement.{statement}
 use Rattle.station.proofs.burst_length.Tie as tie
 
-frame-length-requires : tie.Need-frame-length-requires
-frame-length-requires c κs = search needs
+enum-told : tie.Need-enum-told
+enum-told c = search needs
 
-add-result : tie.Need-add-result
-add-result c = omega (arith, c .frame-length .ensures, frame-at-most (c .before .args .m))
+enum-told-2 : tie.Need-enum-told-2
+enum-told-2 c = search needs
 
-cast-result : tie.Need-cast-result
-cast-result c = omega (arith, c .frame-length .ensures, frame-at-most (c .before .args .m))
+enum-told-3 : tie.Need-enum-told-3
+enum-told-3 c = search needs
 
 returns : tie.Need-returns
-returns c = search needs
+returns c = rw (c .enum-told .given .1)
+
+returns-2 : tie.Need-returns-2
+returns-2 c = rw (c .enum-told2 .given .1)
+
+returns-3 : tie.Need-returns-3
+returns-3 c = rw (c .enum-told3 .given .1)
 
 pub burst-length-spec : {M : Type 1} → statement M
-burst-length-spec = tie.close (tie.spec frame-length-requires add-result cast-result returns)
+burst-length-spec = tie.close (tie.spec enum-told enum-told-2 enum-told-3 returns returns-2 returns-3)

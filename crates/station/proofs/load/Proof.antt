@@ -1,7 +1,12 @@
--- `load` meets its contract: the tests are those of `loadOf`, in its order.
+-- `load` meets its contract: the tests are those of `loadCauses`, in its order.
+use mathlib.Core.Path.{ap}
+use Rattle.ground.proofs.Causes.{ladder}
 use Rattle.station.specs.Stations.{loadOf}
-use Rattle.station.proofs.Judged.{bad, fine}
-use Rattle.station.proofs.NumberLaws.{load-promise}
+use Rattle.station.specs.declared.Station.{Station}
+use Rattle.station.specs.declared.Loading.{Loading}
+use Rattle.station.specs.declared.LoadAnswer.the-variants as load
+use Rattle.station.proofs.SendLaws.{is-empty, not-empty}
+use Rattle.station.proofs.TurnLaws.{load-promise}
 use borrow.Author.Needs.{needs}
 use Rattle.station.proofs.load.Statement.{statement}
 use Rattle.station.proofs.load.Tie as tie
@@ -13,8 +18,7 @@ returns : tie.Need-returns
 unfolding loadOf
 returns c =
     let a = c .before .before .args in
-    load-promise (a .s) (a .m) (a .draw)
-    (rw (bad (c .before .valid .ensures) (c .if1 .taken)))
+    load-promise (a .s) (a .m) (a .draw) (search ladder)
 
 station-ok-requires : tie.Need-station-ok-requires
 station-ok-requires c κs = search needs
@@ -23,8 +27,7 @@ returns-2 : tie.Need-returns-2
 unfolding loadOf
 returns-2 c =
     let a = c .before .before .before .before .args in
-    load-promise (a .s) (a .m) (a .draw)
-    (rw (fine (c .before .before .before .valid .ensures) (c .before .before .if1 .left), bad (c .before .station-ok .ensures) (c .if2 .taken)))
+    load-promise (a .s) (a .m) (a .draw) (search ladder)
 
 draw-ok-requires : tie.Need-draw-ok-requires
 draw-ok-requires c κs = search needs
@@ -33,8 +36,7 @@ returns-3 : tie.Need-returns-3
 unfolding loadOf
 returns-3 c =
     let a = c .before .before .before .before .before .before .args in
-    load-promise (a .s) (a .m) (a .draw)
-    (rw (fine (c .before .before .before .before .before .valid .ensures) (c .before .before .before .before .if1 .left), fine (c .before .before .before .station-ok .ensures) (c .before .before .if2 .left), bad (c .before .draw-ok .ensures) (c .if3 .taken)))
+    load-promise (a .s) (a .m) (a .draw) (search ladder depth 8)
 
 enum-told : tie.Need-enum-told
 enum-told c = search needs
@@ -49,15 +51,14 @@ returns-4 : tie.Need-returns-4
 unfolding loadOf
 returns-4 c =
     let a = c .before .before .before .before .before .before .before .before .before .args in
-    load-promise (a .s) (a .m) (a .draw)
-    (rw (c .at-start .ensures, fine (c .before .before .before .before .before .before .before .before .valid .ensures) (c .before .before .before .before .before .before .before .if1 .left), fine (c .before .before .before .before .before .before .station-ok .ensures) (c .before .before .before .before .before .if2 .left), fine (c .before .before .before .before .draw-ok .ensures) (c .before .before .before .if3 .left), c .before .enum-told .given .1))
+    let next = ap {B = Loading} (λ (s : Station). record { answer = load.Loaded; next = s }) (c .at-start .ensures) in
+    load-promise (a .s) (a .m) (a .draw) (search (ladder, is-empty) depth 8)
 
 returns-5 : tie.Need-returns-5
 unfolding loadOf
 returns-5 c =
     let a = c .before .before .before .before .before .before .before .before .args in
-    load-promise (a .s) (a .m) (a .draw)
-    (rw (fine (c .before .before .before .before .before .before .before .valid .ensures) (c .before .before .before .before .before .before .if1 .left), fine (c .before .before .before .before .before .station-ok .ensures) (c .before .before .before .before .if2 .left), fine (c .before .before .before .draw-ok .ensures) (c .before .before .if3 .left), c .enum-told2 .given .1))
+    load-promise (a .s) (a .m) (a .draw) (search (ladder, not-empty) depth 8)
 
 pub load-spec : {M : Type 1} → statement M
 load-spec =

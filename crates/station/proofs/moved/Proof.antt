@@ -1,6 +1,6 @@
 -- `moved` meets its contract: an empty station stays, and one with a message has the numbers of its move, or is empty when done.
 use mathlib.Core.Path.{sym}
-use Rattle.station.proofs.TurnLaws.{Ready, turn-empty, turn-done, turn-on}
+use Rattle.station.proofs.TurnLaws.{Ready, turn-empty, by-done, by-going}
 use borrow.Author.Needs.{needs}
 use Rattle.station.proofs.moved.Statement.{statement}
 use Rattle.station.proofs.moved.Tie as tie
@@ -12,7 +12,7 @@ enum-known-held : tie.Need-enum-known-held
 enum-known-held c = search needs
 
 moves-requires : tie.Need-moves-requires
-moves-requires c κs = search needs
+moves-requires c κs = (c .before .held .given .1, c .before .before .before .pre)
 
 empty-requires : tie.Need-empty-requires
 empty-requires c κs = search needs
@@ -28,15 +28,13 @@ ready c =
     }
 
 returns : tie.Need-returns
-returns c =
-    rw (c .empty .ensures)
-    (sym (turn-done (ready (c .before .before .before .before .before .before)) (c .before .before .before .before .held .given .1) (c .before .before .moves .ensures) (c .before .if1 .taken)))
+returns c = rw (c .empty .ensures) (sym (by-done _ (c .before .before .moves .result) (c .before .before .moves .ensures) (c .before .if1 .taken)))
 
 returns-2 : tie.Need-returns-2
 returns-2 c = sym (turn-empty (ready (c .before .before)) (c .enum-told .given .1))
 
 returns-3 : tie.Need-returns-3
-returns-3 c = sym (turn-on (ready (c .before .before .before .before .before)) (c .before .before .before .held .given .1) (c .before .moves .ensures) (c .if1 .left))
+returns-3 c = sym (by-going _ (c .before .moves .result) (c .before .moves .ensures) (c .if1 .left))
 
 pub moved-spec : {M : Type 1} → statement M
 moved-spec =

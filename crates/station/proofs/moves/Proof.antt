@@ -1,25 +1,32 @@
--- `moves` meets its contract: the tests are those of `moveOf`, in its order. A place is below the last exactly where one more is
--- below the burst's length.
-use Prim.Native.Nat.{_+_}
+-- `moves` meets its contract: a judged station that hears another half-cycle than it sent starts again. Else it counts while its count is
+-- below its wait, and then goes on in its burst, whose last place is one below the burst's length.
 use native.Mathlib.Omega.{arith}
-use borrow.Author.Tests.{lt-ltb, le-ltb, eq-eqb, ne-eqb}
-use Rattle.burst.specs.Frames.{burstLength}
-use Rattle.station.specs.Stations.{moveOf}
 use Rattle.burst.proofs.Writing.{frame-of-bits}
+use Rattle.station.proofs.TurnLaws.{Ready, turn-aborts, turn-counts, turn-goes, turn-ends}
 use borrow.Author.Needs.{needs}
 use Rattle.station.proofs.moves.Statement.{statement}
 use Rattle.station.proofs.moves.Tie as tie
 
+ready : (c : tie.Start) → Ready (c .args .s) (c .args .sent) (c .args .heard) (c .args .draw)
+ready c =
+    record {
+      half = c .pre .1 .1 .1 .1;
+      ok = c .pre .1 .0 .0;
+      drawn = c .pre .1 .0 .1;
+      is = c .pre .1 .1 .0;
+      kept = c .pre .1 .1 .1 .0;
+    }
+
 returns : tie.Need-returns
-unfolding moveOf
-returns c = rw (ne-eqb _ _ (c .if1 .taken))
+returns c = turn-aborts (ready (c .before)) (c .before .pre .0) (c .if1 .taken)
 
 add-t7 : tie.Need-add-t7
 add-t7 c = search needs
 
 returns-2 : tie.Need-returns-2
-unfolding moveOf
-returns-2 c = rw (eq-eqb _ _ (c .before .before .before .if1 .left), lt-ltb _ _ (c .before .if2 .taken))
+returns-2 c =
+    let start = c .before .before .before .before in
+    turn-counts (ready start) (start .pre .0) (c .before .before .before .if1 .left) (c .before .if2 .taken)
 
 burst-length-requires : tie.Need-burst-length-requires
 burst-length-requires c κs = search needs
@@ -31,16 +38,17 @@ add-t10 : tie.Need-add-t10
 add-t10 c = search needs
 
 returns-3 : tie.Need-returns-3
-unfolding moveOf
 returns-3 c =
-    let a = c .before .before .before .before .before .before .before .args in
-    rw (eq-eqb _ _ (c .before .before .before .before .before .before .if1 .left), le-ltb _ _ (c .before .before .before .before .if2 .left), lt-ltb (a .s .place + 1) (burstLength (a .m)) (omega (arith, c .before .before .before .burst-length .ensures, c .before .if3 .taken)))
+    let start = c .before .before .before .before .before .before .before in
+    turn-goes (ready start) (start .pre .0) (c .before .before .before .before .before .before .if1 .left)
+    (c .before .before .before .before .if2 .left)
+    (omega (arith, c .before .before .before .burst-length .ensures, c .before .if3 .taken))
 
 returns-4 : tie.Need-returns-4
-unfolding moveOf
 returns-4 c =
-    let a = c .before .before .before .before .before .before .args in
-    rw (eq-eqb _ _ (c .before .before .before .before .before .if1 .left), le-ltb _ _ (c .before .before .before .if2 .left), le-ltb (a .s .place + 1) (burstLength (a .m)) (omega (arith, c .before .before .burst-length .ensures, c .if3 .left)))
+    let start = c .before .before .before .before .before .before in
+    turn-ends (ready start) (start .pre .0) (c .before .before .before .before .before .if1 .left) (c .before .before .before .if2 .left)
+    (omega (arith, c .before .before .burst-length .ensures, c .if3 .left))
 
 pub moves-spec : {M : Type 1} → statement M
 moves-spec =

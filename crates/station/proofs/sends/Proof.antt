@@ -1,14 +1,16 @@
 -- `sends` meets its contract: an idle station sends 0. One that is not idle is in one of the states exactly where it holds a message
 -- that its tests let through, with its count at its wait and its place within its burst.
-use mathlib.Core.Path.{sym, _∙_}
-use mathlib.Core.Bool.{_&&_}
+use mathlib.Core.Path.{sym, ap, _∙_}
+use mathlib.Core.Bool.{_&&_, and-eq-true-iff}
 use borrow.Author.Tests.{ltb-true}
 use lib.Dec.{eqb, ltb}
 use Rattle.message.specs.Messages.{messageOk}
 use Rattle.burst.specs.Frames.{burstLength}
 use Rattle.station.specs.Stations.{drawOk, sendOf}
-use Rattle.station.proofs.NumberLaws.{sent-promise}
+use Rattle.ground.proofs.Causes.{ladder}
+use Rattle.station.specs.declared.SendAnswer.the-variants as send
 use Rattle.station.proofs.StateLaws.{idle-told, empty-busy, holds-busy, sends-half, last-two}
+use Rattle.station.proofs.TurnLaws.{send-promise}
 use borrow.Author.Needs.{needs}
 use Rattle.station.proofs.sends.Statement.{statement}
 use Rattle.station.proofs.sends.Tie as tie
@@ -21,7 +23,8 @@ unfolding sendOf
 returns c =
     let s = c .before .before .args .s in
     let told = idle-told s (sym (c .before .idle .ensures) ∙ c .if1 .taken) in
-    sent-promise s (rw (told .0, told .1))
+    let zero = ap send.Sends (sym (told .1)) in
+    send-promise s (search ladder)
 
 enum-told : tie.Need-enum-told
 enum-told c = search needs
@@ -43,7 +46,8 @@ half-at-requires c κs =
     let s = c .before .before .before .before .before .before .before .before .before .before .before .args .s in
     let m = c .before .before .before .before .before .before .before .held .given .0 .0 in
     let tests = rw (c .before .before .before .before .before .draw-ok .ensures, c .before .before .before .before .valid .ensures, c .before .before .burst-length .ensures) at (c .if2 .taken) in
-    ltb-true (s .place) (burstLength m) (last-two (drawOk (s .wait) && messageOk m) (eqb (s .count) (s .wait)) (ltb (s .place) (burstLength m)) tests .1)
+    let first = and-eq-true-iff (drawOk (s .wait) && messageOk m) _ .0 tests .0 in
+    (and-eq-true-iff (drawOk (s .wait)) (messageOk m) .0 first .1, ltb-true (s .place) (burstLength m) (last-two (drawOk (s .wait) && messageOk m) (eqb (s .count) (s .wait)) (ltb (s .place) (burstLength m)) tests .1))
 
 returns-2 : tie.Need-returns-2
 unfolding sendOf
@@ -54,13 +58,16 @@ returns-2 c =
     let busy = sym (c .before .before .before .before .before .before .before .before .before .before .before .idle .ensures) ∙ c .before .before .before .before .before .before .before .before .before .before .if1 .left in
     let tests = rw (c .before .before .before .before .before .before .draw-ok .ensures, c .before .before .before .before .before .valid .ensures, c .before .before .before .burst-length .ensures) at (c .before .if2 .taken) in
     let level = last-two (drawOk (s .wait) && messageOk m) (eqb (s .count) (s .wait)) (ltb (s .place) (burstLength m)) tests .0 in
-    sent-promise s (rw (c .half-at .ensures, holds-busy s busy m held ∙ tests, sends-half s m held level))
+    let ok = holds-busy s busy m held ∙ tests in
+    let half = ap send.Sends (c .half-at .ensures ∙ sym (sends-half s m held level)) in
+    send-promise s (search ladder)
 
 returns-3 : tie.Need-returns-3
 unfolding sendOf
 returns-3 c =
     let s = c .before .before .before .before .args .s in
-    sent-promise s (rw (empty-busy s (sym (c .before .before .before .idle .ensures) ∙ c .before .before .if1 .left) (c .enum-told .given .1)))
+    let bad = empty-busy s (sym (c .before .before .before .idle .ensures) ∙ c .before .before .if1 .left) (c .enum-told .given .1) in
+    send-promise s (search ladder)
 
 returns-4 : tie.Need-returns-4
 unfolding sendOf
@@ -68,7 +75,8 @@ returns-4 c =
     let s = c .before .before .before .before .before .before .before .before .before .before .before .args .s in
     let busy = sym (c .before .before .before .before .before .before .before .before .before .before .idle .ensures) ∙ c .before .before .before .before .before .before .before .before .before .if1 .left in
     let tests = rw (c .before .before .before .before .before .draw-ok .ensures, c .before .before .before .before .valid .ensures, c .before .before .burst-length .ensures) at (c .if2 .left) in
-    sent-promise s (rw (holds-busy s busy (c .before .before .before .before .before .before .before .held .given .0 .0) (c .before .before .before .before .before .before .before .held .given .1) ∙ tests))
+    let bad = holds-busy s busy (c .before .before .before .before .before .before .before .held .given .0 .0) (c .before .before .before .before .before .before .before .held .given .1) ∙ tests in
+    send-promise s (search ladder)
 
 pub sends-spec : {M : Type 1} → statement M
 sends-spec =

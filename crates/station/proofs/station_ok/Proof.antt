@@ -19,7 +19,7 @@ returns c = sym (sends-told (c .before .before .before .args .s) (c .enum-told .
 
 returns-2 : tie.Need-returns-2
 returns-2 c =
-    sym (refused-told (c .before .before .before .args .s) (sym (c .before .before .sends .ensures .0) ∙ c .enum-told2 .given .1))
+    sym (refused-told (c .before .before .before .args .s) _ (sym (c .before .before .sends .ensures .0) ∙ c .enum-told2 .given .1))
 
 pub station-ok-spec : {M : Type 1} → statement M
 station-ok-spec = tie.close (tie.spec sends-requires enum-told enum-told-2 returns returns-2)

@@ -1,16 +1,16 @@
 -- `draws_fine` meets its contract. The loop's invariant: the draws passed are fine, so that all are fine where those left are.
 use native.Mathlib.Numerals.{add-one}
-use Rattle.station.proofs.Judged.{bad, fine}
+use Rattle.ground.proofs.Causes.{bad, fine}
 use borrow.Author.Needs.{needs}
 use mathlib.Core.Path.{_≡_, refl, sym, ap, _∙_}
 use Prim.Native.Nat.{ℕ, _≤_, _-_}
 use native.Mathlib.Omega.{arith}
 use lib.ListN.{take}
 use lib.Seq.{slice, slice-empty}
-use Rattle.bench.specs.Benches.{drawsOk}
-use Rattle.bench.proofs.Loops.{draws-more}
-use Rattle.bench.proofs.draws_fine.Statement.{statement}
-use Rattle.bench.proofs.draws_fine.Tie as tie
+use Rattle.station.specs.Benches.{drawsOk}
+use Rattle.station.proofs.Loops.{draws-more}
+use Rattle.station.proofs.bench.draws_fine.Statement.{statement}
+use Rattle.station.proofs.bench.draws_fine.Tie as tie
 
 abbrev Inv-loop : tie.InvT-loop
 Inv-loop n draws d₀ d = (d ≤ n) × (drawsOk (slice d n draws) ≡ drawsOk (take n draws))

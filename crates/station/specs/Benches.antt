@@ -1,23 +1,17 @@
 -- The bench (01, 'Station and bench', 'Numbers given back'): one half-cycle of any number of stations on one line.
 use Prim.Native.Nat.{ℕ, _-_, max}
-use mathlib.Core.Bool.{Bool, true, false, _&&_, not}
+use mathlib.Core.Bool.{Bool, true, false, _&&_}
 use mathlib.Core.List.{List, [], _∷_, _++_}
 use lib.Dec.{leb}
 use lib.ListN.{length, take, drop, replicate}
-use Rattle.ground.specs.Choice.{pick}
-use Rattle.message.specs.Numbers.{NONE, STATE, DRAW}
-use Rattle.station.specs.declared.Station.{Station}
-use Rattle.station.specs.Lowest.{Cause, cause, lowest}
+use Rattle.ground.specs.Refusals.{Report, reports, refuses, Cause, unless, judged}
+use Rattle.ground.specs.declared.Refusal.{Refusal}
+use Rattle.ground.specs.declared.Refusal.the-variants as refusal
 use Rattle.station.specs.Stations.{stationOk, drawOk, sendsOf, turnOf, isDone}
-use Rattle.bench.specs.declared.BenchAnswer.{BenchAnswer}
-use Rattle.bench.specs.declared.BenchAnswer.the-variants.{Line, RefusedState, RefusedDraw}
-use Rattle.bench.specs.declared.BenchTurn.{BenchTurn}
-
--- 01's number for each answer
-abbrev pub benchNumber : BenchAnswer → ℕ
-benchNumber (Line h) = NONE
-benchNumber RefusedState = STATE
-benchNumber RefusedDraw = DRAW
+use Rattle.station.specs.declared.Station.{Station}
+use Rattle.station.specs.declared.bench.BenchAnswer.{BenchAnswer}
+use Rattle.station.specs.declared.bench.BenchAnswer.the-variants.{Line, Refused}
+use Rattle.station.specs.declared.bench.BenchTurn.{BenchTurn}
 
 -- "The bench advances up to 16 stations"
 abbrev pub mostStations : ℕ
@@ -48,10 +42,6 @@ unfoldable pub drawsOk : List ℕ → Bool
 drawsOk [] = true
 drawsOk (d ∷ ds) = drawOk d && drawsOk ds
 
--- STATE: "bench of 0 or over 16", or one of its stations in a state that there is not
-unfoldable pub benchOk : ℕ → List Station → Bool
-benchOk n slots = (leb 1 n && leb n mostStations) && stationsOk (take n slots)
-
 -- the turn of n stations; "slots and draws past its last station are neither judged nor changed"
 unfoldable pub turnAll : ℕ → List Station → List ℕ → BenchTurn
 turnAll n slots draws =
@@ -62,17 +52,22 @@ turnAll n slots draws =
       slots = moveAll line (take n slots) (take n draws) ++ drop n slots;
     }
 
--- one call: "the lowest number that applies", all then as it was and none DONE
-unfoldable pub benchOf : ℕ → List Station → List ℕ → BenchTurn
-benchOf n slots draws =
-    pick (benchOk n slots)
-    (pick (drawsOk (take n draws)) (turnAll n slots draws)
-    (record { answer = RefusedDraw; done = replicate (length slots) false; slots = slots }))
-    (record { answer = RefusedState; done = replicate (length slots) false; slots = slots })
+-- a refused call: all as it was and none DONE
+abbrev pub benchRefused : List Station → Refusal → BenchTurn
+benchRefused slots why = record { answer = Refused why; done = replicate (length slots) false; slots = slots }
 
--- the refusals of a call, and the number that it gives back
+-- STATE: "bench of 0 or over 16", or one of its stations in a state that there is not
 abbrev pub benchCauses : ℕ → List Station → List ℕ → List Cause
-benchCauses n slots draws = cause (not (benchOk n slots)) STATE ∷ cause (not (drawsOk (take n draws))) DRAW ∷ []
+benchCauses n slots draws =
+    unless (leb 1 n && leb n mostStations) refusal.State
+    ∷ unless (stationsOk (take n slots)) refusal.State
+    ∷ unless (drawsOk (take n draws)) refusal.Draw
+    ∷ []
 
-unfoldable pub benchRefusal : ℕ → List Station → List ℕ → ℕ
-benchRefusal n slots draws = lowest (benchCauses n slots draws)
+unfoldable pub benchOf : ℕ → List Station → List ℕ → BenchTurn
+benchOf n slots draws = judged (benchCauses n slots draws) (turnAll n slots draws) (benchRefused slots)
+
+-- 01's number, and the line's half-cycle
+abbrev pub benchReport : BenchAnswer → Report ℕ
+benchReport (Line h) = reports (h ∷ [])
+benchReport (Refused why) = refuses why

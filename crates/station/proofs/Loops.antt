@@ -13,12 +13,12 @@ use native.Mathlib.Nat.{zero-max, max-zero, zero-add, suc-sub-suc, zero-sub, sub
 use native.Mathlib.Omega.{arith}
 use lib.ListN.{length, take, drop, getD, set, replicate, length-set, length-replicate}
 use lib.Seq.{sets, sets-eq, slice, slice-cons, slice-empty, take-suc, take-suc-set, getD-set-other, set-getD, length-take-le}
 use Rattle.station.specs.declared.Station.{Station}
 use Rattle.station.specs.declared.Turn.{Turn}
 use Rattle.station.specs.Stations.{stationOk, drawOk, sendsOf, turnOf, isDone}
-use Rattle.station.proofs.NumberLaws.{sends-below}
-use Rattle.bench.specs.Benches.{lineOf, moveAll, doneAll, stationsOk, drawsOk}
-use Rattle.bench.proofs.StationsLaws.{length-moved, length-done}
+use Rattle.station.proofs.SendLaws.{sends-below}
+use Rattle.station.specs.Benches.{lineOf, moveAll, doneAll, stationsOk, drawsOk}
+use Rattle.station.proofs.SlotLaws.{length-moved, length-done}
 
 -- ---- the draws
 

@@ -6,7 +6,7 @@
 --     three-numbers                a slot whose numbers are written one after the other
 --     length-moved, length-done    there are as many stations after a half-cycle, and as many marks
 --     or-max                       of two half-cycles the one or the other is the greater of them
---     bench-number, bench-promise  the number of a call's answer
+--     bench-promise                what a call's answer reports
 use mathlib.Core.Path.{_≡_, refl, sym, ap, subst, _∙_}
 use mathlib.Core.Bool.{true, and-eq-true-iff}
 use mathlib.Core.List.{List, [], _∷_, map}
@@ -16,14 +16,16 @@ use native.Mathlib.Omega.{arith}
 use lib.Bits.{bitOr}
 use lib.ListN.{length, take, getD, set, length-take, length-map, List·getD-map}
 use lib.Seq.{getD-take, length-take-le, getD-set-same, set-set, lt-length-set}
+use Rattle.ground.specs.Refusals.{Report, reports, refuses, judged}
+use Rattle.ground.proofs.Causes.{judged-map}
 use Rattle.message.proofs.Tables.{getD-any}
 use Rattle.station.specs.declared.Station.{Station}
 use Rattle.station.specs.declared.Held.the-variants.{Empty}
 use Rattle.station.specs.Stations.{stationOk, drawOk, sendsOf}
-use Rattle.station.proofs.NumberLaws.{lowest-is-first, refused-or, sends-below}
+use Rattle.station.proofs.SendLaws.{sends-below}
 use Rattle.station.proofs.TurnLaws.{Ready}
-use Rattle.bench.specs.Benches.{lineOf, moveAll, doneAll, stationsOk, drawsOk, benchOk, turnAll, benchOf, benchNumber, benchCauses, benchRefusal}
-use Rattle.bench.specs.declared.BenchTurn.{BenchTurn}
+use Rattle.station.specs.Benches.{lineOf, moveAll, doneAll, stationsOk, drawsOk, turnAll, benchOf, benchReport, benchCauses}
+use Rattle.station.specs.declared.bench.BenchTurn.{BenchTurn}
 
 -- ---- one of many
 
@@ -138,14 +140,11 @@ or-max (suc (suc a)) b h k = absurd (omega arith)
 or-max zero (suc (suc b)) h k = absurd (omega arith)
 or-max (suc zero) (suc (suc b)) h k = absurd (omega arith)
 
--- ---- the number of a call's answer
+-- ---- what a call's answer reports
 
-pub bench-number : (n : ℕ) (slots : List Station) (draws : List ℕ) → benchNumber (benchOf n slots draws .answer) ≡ benchRefusal n slots draws
-unfolding benchOf benchRefusal turnAll
-bench-number n slots draws =
-    let number : BenchTurn → ℕ = λ o. benchNumber (o .answer) in
-    refused-or number (benchOk n slots) refl (refused-or number (drawsOk (take n draws)) refl refl)
-    ∙ sym (lowest-is-first (benchCauses n slots draws) refl)
-
-pub bench-promise : {o : BenchTurn} (n : ℕ) (slots : List Station) (draws : List ℕ) → o ≡ benchOf n slots draws → (o ≡ benchOf n slots draws) × (benchNumber (o .answer) ≡ benchRefusal n slots draws)
-bench-promise n slots draws e = (e, ap (λ (o : BenchTurn). benchNumber (o .answer)) e ∙ bench-number n slots draws)
+pub bench-promise : {o : BenchTurn} (n : ℕ) (slots : List Station) (draws : List ℕ) → o ≡ benchOf n slots draws
+    → (o ≡ benchOf n slots draws) × (benchReport (o .answer) ≡ judged (benchCauses n slots draws) (reports (lineOf (take n slots) ∷ [])) refuses)
+unfolding benchOf turnAll
+bench-promise n slots draws e =
+    let report : BenchTurn → Report ℕ = λ o. benchReport (o .answer) in
+    (e, ap report e ∙ judged-map report _ _ (benchCauses n slots draws))

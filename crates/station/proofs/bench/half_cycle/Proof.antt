@@ -1,5 +1,5 @@
 -- `half_cycle` meets its contract. The loop's invariant (`Heard`): the stations passed are in their states, the line is what they send,
--- and what each of them sent is kept. The tests are those of `benchOf`, in its order, and what is left is the move of all.
+-- and what each of them sent is kept. The tests are those of `benchCauses`, in its order, and what is left is the move of all.
 use borrow.Author.Needs.{needs}
 use mathlib.Core.Path.{_≡_, sym, subst, _∙_}
 use mathlib.Core.Bool.{true, _&&_, and-eq-true-iff}
@@ -10,15 +10,15 @@ use native.Mathlib.Numerals.{add-one}
 use borrow.Author.Tests.{leb-true, not-true, not-false}
 use lib.Dec.{leb}
 use lib.ListN.{length, getD, replicate}
-use Rattle.station.proofs.Judged.{bad, fine}
-use Rattle.station.proofs.NumberLaws.{sends-below}
+use Rattle.ground.proofs.Causes.{ladder, fine}
+use Rattle.station.proofs.SendLaws.{sends-below}
 use Rattle.station.proofs.StateLaws.{idle-told}
 use Rattle.station.proofs.TurnLaws.{sends-told, refused-told}
-use Rattle.bench.specs.Benches.{benchOk, benchOf}
-use Rattle.bench.proofs.StationsLaws.{zeros, or-max, bench-promise}
-use Rattle.bench.proofs.Loops.{Heard, heard-none, heard-more, heard-idle, heard-bad, heard-fine, heard-line}
-use Rattle.bench.proofs.half_cycle.Statement.{statement}
-use Rattle.bench.proofs.half_cycle.Tie as tie
+use Rattle.station.specs.Benches.{benchOf}
+use Rattle.station.proofs.SlotLaws.{zeros, or-max, bench-promise}
+use Rattle.station.proofs.Loops.{Heard, heard-none, heard-more, heard-idle, heard-bad, heard-fine, heard-line}
+use Rattle.station.proofs.bench.half_cycle.Statement.{statement}
+use Rattle.station.proofs.bench.half_cycle.Tie as tie
 
 abbrev Inv-loop : tie.InvT-loop
 Inv-loop n draws slots line₀ sent₀ k₀ line sent k = Heard n slots line sent k
@@ -44,11 +44,10 @@ refused-requires : tie.Need-refused-requires Inv-loop μ-loop
 refused-requires c κs = search needs
 
 returns : tie.Need-returns Inv-loop μ-loop
-unfolding benchOf benchOk
+unfolding benchOf
 returns c =
     let a = c .before .before .args in
-    bench-promise (a .n) (a .t1) (a .draws)
-    (c .refused .ensures ∙ rw (not-true (leb 1 (a .n) && leb (a .n) 16) (c .before .if1 .taken)))
+    bench-promise (a .n) (a .t1) (a .draws) (search (ladder, not-true))
 
 loop-holds : tie.Need-loop-holds Inv-loop μ-loop
 loop-holds c =
@@ -81,12 +80,14 @@ refused-requires-2 : tie.Need-refused-requires-2 Inv-loop μ-loop
 refused-requires-2 c κs = search needs
 
 returns-2 : tie.Need-returns-2 Inv-loop μ-loop
-unfolding benchOf benchOk
+unfolding benchOf
 returns-2 c =
-    let a = c .before .before .before .before .before .before .before .before .before .before .before .args in
-    bench-promise (a .n) (a .t1) (a .draws)
-    (c .refused2 .ensures
-    ∙ rw (counted (c .before .before .before .before .before .before .before .before .before .before), heard-bad (omega (arith, few (c .before .before .before .before .before .before .before .before .before .before))) (c .before .before .before .before .before .before .before .before .loop-test .taken) zeros (c .before .before .before .before .before .before .before .before .before .loop .inv) (refused-told (getD (a .t1) (c .before .before .before .before .before .before .before .before .before .loop .k) zeros) (sym (c .before .before .before .sends .ensures .0) ∙ c .before .enum-told .given .1))))
+    let early = c .before .before .before .before .before .before .before .before in
+    let count = counted (early .before .before) in
+    let s = getD (early .before .before .before .args .t1) (early .before .loop .k) zeros in
+    let wrong = heard-bad (omega (arith, few (early .before .before))) (early .loop-test .taken) zeros (early .before .loop .inv) (refused-told s _ (sym (c .before .before .before .sends .ensures .0) ∙ c .before .enum-told .given .1)) in
+    let a = early .before .before .before .args in
+    bench-promise (a .n) (a .t1) (a .draws) (search ladder)
 
 enum-known-half : tie.Need-enum-known-half Inv-loop μ-loop
 enum-known-half c = search needs
@@ -128,12 +129,12 @@ refused-requires-3 : tie.Need-refused-requires-3 Inv-loop μ-loop
 refused-requires-3 c κs = search needs
 
 returns-3 : tie.Need-returns-3 Inv-loop μ-loop
-unfolding benchOf benchOk
+unfolding benchOf
 returns-3 c =
+    let count = counted (c .before .before .before .before .before) in
+    let all = heard-fine (heard (c .before .before .before)) in
     let a = c .before .before .before .before .before .before .args in
-    bench-promise (a .n) (a .t1) (a .draws)
-    (c .refused3 .ensures
-    ∙ rw (counted (c .before .before .before .before .before), heard-fine (heard (c .before .before .before)), bad (c .before .before .draws-fine .ensures) (c .before .if3 .taken)))
+    bench-promise (a .n) (a .t1) (a .draws) (search ladder depth 8)
 
 move-all-requires : tie.Need-move-all-requires Inv-loop μ-loop
 move-all-requires c κs =
@@ -143,12 +144,12 @@ move-all-requires c κs =
     (omega (arith, few (c .before .before .before .before)), (omega (arith, few (c .before .before .before .before)), (heard-fine all, (fine (c .before .draws-fine .ensures) (c .if3 .left), (heard-line all, all .kept)))))
 
 returns-4 : tie.Need-returns-4 Inv-loop μ-loop
-unfolding benchOf benchOk
+unfolding benchOf
 returns-4 c =
+    let count = counted (c .before .before .before .before .before) in
+    let all = heard-fine (heard (c .before .before .before)) in
     let a = c .before .before .before .before .before .before .args in
-    bench-promise (a .n) (a .t1) (a .draws)
-    (c .move-all .ensures
-    ∙ rw (counted (c .before .before .before .before .before), heard-fine (heard (c .before .before .before)), fine (c .before .before .draws-fine .ensures) (c .before .if3 .left)))
+    bench-promise (a .n) (a .t1) (a .draws) (search ladder depth 8)
 
 pub half-cycle-spec : {M : Type 1} → statement M
 half-cycle-spec =

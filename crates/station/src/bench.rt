@@ -1,19 +1,21 @@
 // The bench: up to sixteen stations on one line, advanced by one half-cycle.
-use station::Held;
-use station::SendAnswer;
-use station::Station;
-use station::draw_ok;
-use station::empty;
-use station::idle;
-use station::moves;
-use station::sends;
+use crate::Held;
+use crate::SendAnswer;
+use crate::Station;
+use crate::draw_ok;
+use crate::empty;
+use crate::idle;
+use crate::moves;
+use crate::sends;
+use ground::Refusal;
 ghost use mathlib.Core.Path.{_≡_};
-ghost use mathlib.Core.Bool.{true, false};
-ghost use mathlib.Core.List.{map};
+ghost use mathlib.Core.Bool.{true};
+ghost use mathlib.Core.List.{map, _∷_, []};
 ghost use Prim.Native.Nat.{_≤_};
-ghost use lib.ListN.{length, take, replicate};
+ghost use lib.ListN.{length, take};
+ghost use Rattle.ground.specs.Refusals.{judged, reports, refuses, refusalNumber};
 ghost use Rattle.station.specs.Stations.{sendsOf};
-ghost use Rattle.bench.specs.Benches.{benchNumber, lineOf, stationsOk, drawsOk, turnAll, benchOf, benchRefusal};
+ghost use Rattle.station.specs.Benches.{lineOf, stationsOk, drawsOk, turnAll, benchRefused, benchCauses, benchOf, benchReport};
 
 // How many stations a bench has at most.
 pub const SLOTS: usize = 16;
@@ -22,8 +24,7 @@ pub const SLOTS: usize = 16;
 pub enum BenchAnswer {
     // The line's half-cycle.
     Line(u8),
-    RefusedState,
-    RefusedDraw,
+    Refused(Refusal),
 }
 
 // The answer, which stations are DONE, and the slots as the call leaves them.
@@ -34,11 +35,11 @@ pub struct BenchTurn {
 }
 
 // A call that is refused: the slots as they were, and none DONE.
-fn refused(answer: BenchAnswer, slots: [Station; 16]) -> BenchTurn
-    ensures { λ o. ⌜ o ≡ record { answer = answer; done = replicate (length slots) false; slots = slots } ⌝ }
+fn refused(why: Refusal, slots: [Station; 16]) -> BenchTurn
+    ensures { λ o. ⌜ o ≡ benchRefused slots why ⌝ }
 {
     BenchTurn {
-        answer: answer,
+        answer: BenchAnswer::Refused(why),
         done: [false; 16],
         slots: slots,
     }
@@ -100,11 +101,11 @@ fn move_all(slots: [Station; 16], n: usize, draws: [u8; 16], line: u8, sent: [u8
 // One half-cycle of the first n stations: each is judged and heard in one look, then all are moved. A refused call leaves the slots
 // as they were, and any call leaves those past n.
 pub fn half_cycle(slots: [Station; 16], n: usize, draws: [u8; 16]) -> BenchTurn
-    ensures { λ o. ⌜ o ≡ benchOf n slots draws ⌝ }
-    ensures { λ o. ⌜ benchNumber (o .answer) ≡ benchRefusal n slots draws ⌝ }
+    ensures answer { λ o. ⌜ o ≡ benchOf n slots draws ⌝ }
+    ensures report { λ o. ⌜ benchReport (o .answer) ≡ judged (benchCauses n slots draws) (reports (lineOf (take n slots) ∷ [])) refuses ⌝ }
 {
     if !((1 <= n) & (n <= SLOTS)) {
-        return refused(BenchAnswer::RefusedState, slots);
+        return refused(Refusal::State, slots);
     }
     let mut line: u8 = 0;
     let mut sent = [0; 16];
@@ -112,8 +113,8 @@ pub fn half_cycle(slots: [Station; 16], n: usize, draws: [u8; 16]) -> BenchTurn
     while k < n {
         if !idle(slots[k]) {
             match sends(slots[k]) {
-                SendAnswer::RefusedState => {
-                    return refused(BenchAnswer::RefusedState, slots);
+                SendAnswer::Refused(_) => {
+                    return refused(Refusal::State, slots);
                 }
                 SendAnswer::Sends(half) => {
                     sent[k] = half;
@@ -124,7 +125,7 @@ pub fn half_cycle(slots: [Station; 16], n: usize, draws: [u8; 16]) -> BenchTurn
         k += 1;
     }
     if !draws_fine(draws, n) {
-        return refused(BenchAnswer::RefusedDraw, slots);
+        return refused(Refusal::Draw, slots);
     }
     move_all(slots, n, draws, line, sent)
 }

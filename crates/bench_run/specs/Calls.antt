@@ -1,19 +1,20 @@
 -- A list of bench calls with a receiver behind them (01, 'Station and bench'): what each call is given, and what is kept of its answer.
+-- Demand 3 speaks of these calls, and the exported run makes them.
 use Prim.Native.Nat.{ℕ, _≤_}
 use mathlib.Core.Bool.{Bool}
 use mathlib.Core.List.{List, [], _∷_, map}
 use lib.ListN.{length}
-use Rattle.station.specs.declared.Station.{Station}
 use Rattle.receiver.specs.Receivers.{freshReceiver, stepOf}
 use Rattle.receiver.specs.declared.Receiver.{Receiver}
 use Rattle.receiver.specs.declared.Event.{Event}
-use Rattle.bench.specs.Benches.{benchOf}
-use Rattle.bench.specs.declared.BenchAnswer.{BenchAnswer}
-use Rattle.bench.specs.declared.BenchAnswer.the-variants.{Line, RefusedState, RefusedDraw}
-use Rattle.bench.specs.declared.BenchTurn.{BenchTurn}
+use Rattle.station.specs.Benches.{benchOf}
+use Rattle.station.specs.declared.Station.{Station}
+use Rattle.station.specs.declared.bench.BenchAnswer.{BenchAnswer}
+use Rattle.station.specs.declared.bench.BenchAnswer.the-variants.{Line, Refused}
+use Rattle.station.specs.declared.bench.BenchTurn.{BenchTurn}
 
 -- a call that was not refused: the line's half-cycle, "which stations are DONE", and what the receiver said to that half-cycle
-pub record Answer : Type 0 where
+pub record Answered : Type 0 where
   pub line : ℕ
   pub done : List Bool
   pub event : Event
@@ -22,13 +23,13 @@ pub record Answer : Type 0 where
 pub record Moment : Type 0 where
   pub slots : List Station
   pub receiver : Receiver
-  pub past : List Answer
+  pub past : List Answered
 
-abbrev pub linesOf : List Answer → List ℕ
-linesOf past = map (λ (a : Answer). a .line) past
+abbrev pub linesOf : List Answered → List ℕ
+linesOf past = map (λ (a : Answered). a .line) past
 
-abbrev pub eventsIn : List Answer → List Event
-eventsIn past = map (λ (a : Answer). a .event) past
+abbrev pub eventsIn : List Answered → List Event
+eventsIn past = map (λ (a : Answered). a .event) past
 
 -- "The fresh receiver is hunting and has received no half-cycle."
 abbrev pub atStart : List Station → Moment
@@ -42,8 +43,7 @@ hears now turn (Line h) = record {
   receiver = stepOf (now .receiver) h .next;
   past = record { line = h; done = turn .done; event = stepOf (now .receiver) h .event } ∷ now .past;
 }
-hears now turn RefusedState = record { slots = turn .slots; receiver = now .receiver; past = now .past }
-hears now turn RefusedDraw = record { slots = turn .slots; receiver = now .receiver; past = now .past }
+hears now turn (Refused why) = record { slots = turn .slots; receiver = now .receiver; past = now .past }
 
 -- "Each bench call, a refused one too, gets the same n and, in their slots, all n stations as the call before it returned or left them."
 unfoldable pub call : ℕ → Moment → List ℕ → Moment

@@ -2,8 +2,8 @@
 use mathlib.Core.Path.{_≡_}
 use native.Mathlib.Omega.{arith}
 use lib.ListN.{length}
-use Rattle.bench.proofs.refused.Statement.{statement}
-use Rattle.bench.proofs.refused.Tie as tie
+use Rattle.station.proofs.bench.refused.Statement.{statement}
+use Rattle.station.proofs.bench.refused.Tie as tie
 
 returns : tie.Need-returns
 returns c =

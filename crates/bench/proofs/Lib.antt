@@ -1,2 +1,0 @@
-pub mod StationsLaws
-pub mod Loops

@@ -1,0 +1,14 @@
+-- The number given is the lowest that applies: the numbers of each list of causes rise.
+use mathlib.Core.Path.{refl}
+use Rattle.ground.proofs.Causes.{lowest-given}
+use Rattle.station.specs.Stations.{loadCauses, sendCauses, turnCauses}
+use Rattle.station.specs.Benches.{benchCauses}
+use Rattle.station.specs.LowestNumbers.{LowestNumbers}
+
+pub lowest-numbers : LowestNumbers
+lowest-numbers = record {
+  load = λ s m draw. lowest-given (loadCauses s m draw) refl;
+  sends = λ s. lowest-given (sendCauses s) refl;
+  advance = λ s heard draw. lowest-given (turnCauses s heard draw) refl;
+  half-cycle = λ n slots draws. lowest-given (benchCauses n slots draws) refl;
+}
