@@ -1,2 +1,2 @@
+pub mod MessageLaws
 pub mod ReadBack
-pub mod RunLaws

@@ -1,31 +1,63 @@
 -- A message as five numbers, and as five bytes: kind (1 address, 2 function, 3 extended), house, unit or function code, data, command.
 use Prim.Native.Nat.{ℕ}
+use mathlib.Core.Path.{_≡_}
+use mathlib.Core.Bool.{Bool, true, false, _&&_, _||_}
 use mathlib.Core.List.{List, [], _∷_}
-use lib.Dec.{eqb}
+use lib.Dec.{eqb, leb}
 use lib.ListN.{getD}
 use Rattle.ground.specs.Choice.{pick}
-use Rattle.message.specs.Codes.{functionCode, meaningOf}
-use Rattle.message.specs.declared.Meaning.{Meaning}
-use Rattle.message.specs.declared.Meaning.the-variants.{Function as Carries, Extended as Longer, Unsupported}
+use Rattle.ground.specs.Refusals.{Report, reports, refuses, Cause, unless, judged}
+use Rattle.ground.specs.declared.Refusal.the-variants as refusal
+use Rattle.message.specs.Codes.{functionCode, functionAnswer}
+use Rattle.message.specs.Messages.{messageOk}
+use Rattle.message.specs.declared.codes.FunctionRead.{FunctionRead}
+use Rattle.message.specs.declared.codes.FunctionRead.the-variants.{Function as Is, Refused as NoFunction}
 use Rattle.message.specs.declared.Message.{Message}
 use Rattle.message.specs.declared.Message.the-variants.{Address, Function as Command, Extended}
 use Rattle.wire.specs.declared.Five.{Five}
 use Rattle.wire.specs.declared.MessageRead.{MessageRead}
-use Rattle.wire.specs.declared.MessageRead.the-variants.{Message as Says, NoMessage}
+use Rattle.wire.specs.declared.MessageRead.the-variants.{Message as Says, Refused}
 
--- a function by what its code stands for: a code that is none of the twelve functions makes no message
-abbrev pub functionFrom : ℕ → Meaning → MessageRead
-functionFrom house (Carries f) = Says (Command house f)
-functionFrom house Longer = NoMessage
-functionFrom house Unsupported = NoMessage
+-- ---- five numbers
+
+-- "house or unit above 15"
+unfoldable pub takenMessage : Message → MessageRead
+takenMessage m = judged (unless (messageOk m) refusal.Message ∷ []) (Says m) Refused
+
+-- a function by its code: a code that is none of the twelve functions makes no message
+abbrev pub functionFrom : ℕ → FunctionRead → MessageRead
+functionFrom house (Is f) = takenMessage (Command house f)
+functionFrom house (NoFunction why) = Refused refusal.Message
 
 -- the message that five numbers say; a kind other than 1, 2 and 3 makes none. Data and command are looked at for kind 3 only.
 unfoldable pub messageFrom : ℕ → ℕ → ℕ → ℕ → ℕ → MessageRead
 messageFrom kind house third «data» command =
-    pick (eqb kind 1) (Says (Address house third))
-    (pick (eqb kind 2) (functionFrom house (meaningOf third))
-    (pick (eqb kind 3) (Says (Extended house third «data» command))
-    NoMessage))
+    pick (eqb kind 1) (takenMessage (Address house third))
+    (pick (eqb kind 2) (functionFrom house (functionAnswer third))
+    (pick (eqb kind 3) (takenMessage (Extended house third «data» command))
+    (Refused refusal.Message)))
+
+-- when it is refused: numbers that make no message; a house above 15; a third number above 15 that is a unit
+abbrev pub isFunction : FunctionRead → Bool
+isFunction (Is f) = true
+isFunction (NoFunction why) = false
+
+abbrev pub makesMessage : ℕ → ℕ → Bool
+makesMessage kind third = eqb kind 1 || (eqb kind 3 || (eqb kind 2 && isFunction (functionAnswer third)))
+
+abbrev pub messageCauses : ℕ → ℕ → ℕ → List Cause
+messageCauses kind house third =
+    unless (makesMessage kind third) refusal.Message
+    ∷ unless (leb house 15) refusal.Message
+    ∷ unless (eqb kind 2 || leb third 15) refusal.Message
+    ∷ []
+
+-- 01's number and value for each answer
+abbrev pub messageReport : MessageRead → Report Message
+messageReport (Says m) = reports (m ∷ [])
+messageReport (Refused why) = refuses why
+
+-- ---- five bytes
 
 -- the message that a list's first five bytes say
 abbrev pub messageIn : List ℕ → MessageRead
@@ -37,6 +69,21 @@ messageBytes (Address h u) = 1 ∷ h ∷ u ∷ 0 ∷ 0 ∷ []
 messageBytes (Command h f) = 2 ∷ h ∷ functionCode f ∷ 0 ∷ 0 ∷ []
 messageBytes (Extended h u d c) = 3 ∷ h ∷ u ∷ d ∷ c ∷ []
 
+-- whether data and command are as those bytes have them, by the kind
+abbrev pub asWritten : ℕ → ℕ → ℕ → Bool
+asWritten kind «data» command = eqb kind 3 || (eqb «data» 0 && eqb command 0)
+
 -- five numbers in their order
 abbrev pub listed : Five → List ℕ
 listed f = f .kind ∷ f .house ∷ f .third ∷ f .data ∷ f .command ∷ []
+
+-- ---- what holds of them: proofs/MessageLaws.antt
+
+-- a message is read back from its bytes; and bytes that say a message, data and command as written, are that message's
+pub record MessagesReadBack : Type 0 where
+  pub message-of-bytes : (m : Message) → messageOk m ≡ true → messageIn (messageBytes m) ≡ Says m
+  pub bytes-of-message : (kind house third «data» command : ℕ) (m : Message) → asWritten kind «data» command ≡ true
+      → messageFrom kind house third «data» command ≡ Says m → messageBytes m ≡ kind ∷ house ∷ third ∷ «data» ∷ command ∷ []
+  -- what is read is a message of a house and unit 0 to 15
+  pub valid-message : (kind house third «data» command : ℕ) (m : Message) → messageFrom kind house third «data» command ≡ Says m
+      → messageOk m ≡ true

@@ -1,26 +1,30 @@
--- A receiver as eleven bytes, an event as six, and a run of a receiver over half-cycles that are lent.
+-- A receiver as eleven bytes, an event as six, and a run of a receiver in lent bytes over half-cycles that are lent.
 use Prim.Native.Nat.{ℕ, _+_, _*_, _/_, _%_, _^_}
-use mathlib.Core.Bool.{_&&_, _||_}
+use mathlib.Core.Path.{_≡_}
+use mathlib.Core.Bool.{Bool, true, false, _&&_}
 use mathlib.Core.List.{List, [], _∷_, _++_, flatMap}
 use lib.Dec.{eqb, leb}
 use lib.ListN.{length, getD, drop}
 use Rattle.ground.specs.Choice.{pick}
-use Rattle.message.specs.Numbers.{HALF, STATE, PAIR, UNSUPPORTED}
+use Rattle.ground.specs.Refusals.{Cause, unless, judged, numberGiven, lowest}
+use Rattle.ground.specs.declared.Refusal.the-variants as refusal
+use Rattle.ground.specs.declared.CountAnswer.{CountAnswer}
+use Rattle.ground.specs.declared.CountAnswer.the-variants.{Done, Refused}
+use Rattle.message.specs.declared.Message.{Message}
+use Rattle.receiver.specs.Receivers.{freshReceiver, receiverOk, eventNumber, stepOf}
 use Rattle.receiver.specs.Hearing.{eventsOf, receiverAfter}
 use Rattle.receiver.specs.declared.Given.{Given}
 use Rattle.receiver.specs.declared.Given.the-variants.{No, Yes}
 use Rattle.receiver.specs.declared.Receiver.{Receiver}
 use Rattle.receiver.specs.declared.Event.{Event}
-use Rattle.receiver.specs.declared.Event.the-variants.{Nothing, Message as Gives, Repeat, BrokenPair, BrokenUnsupported, RefusedHalf, RefusedState}
-use Rattle.wire.specs.Messages.{messageFrom, messageBytes}
+use Rattle.receiver.specs.declared.Event.the-variants.{Nothing, Message as Gives, Repeat, BrokenPair, BrokenUnsupported, Refused as Stays}
+use Rattle.wire.specs.Messages.{messageFrom, messageIn, messageBytes, asWritten}
 use Rattle.wire.specs.declared.MessageRead.{MessageRead}
-use Rattle.wire.specs.declared.MessageRead.the-variants.{Message as Says, NoMessage}
+use Rattle.wire.specs.declared.MessageRead.the-variants.{Message as Says, Refused as NoMessage}
 use Rattle.wire.specs.declared.receivers.GivenRead.{GivenRead}
-use Rattle.wire.specs.declared.receivers.GivenRead.the-variants.{Given as Was, NoGiven}
+use Rattle.wire.specs.declared.receivers.GivenRead.the-variants.{Given as Was, Refused as NoGiven}
 use Rattle.wire.specs.declared.receivers.ReceiverRead.{ReceiverRead}
-use Rattle.wire.specs.declared.receivers.ReceiverRead.the-variants.{Receiver as Is, NoReceiver}
-use Rattle.wire.specs.declared.receivers.RunAnswer.{RunAnswer}
-use Rattle.wire.specs.declared.receivers.RunAnswer.the-variants.{Ran, RefusedShort}
+use Rattle.wire.specs.declared.receivers.ReceiverRead.the-variants.{Receiver as Is, Refused as NoReceiver}
 
 -- ---- a receiver: past; at; bits in four bytes, highest first; the message given before in five
 
@@ -30,29 +34,40 @@ RECEIVER-BYTES = 11
 -- the message given before: none where all five bytes are 0, else the message that they say; data and command are 0 for kinds 1 and 2
 abbrev pub givenAs : MessageRead → GivenRead
 givenAs (Says m) = Was (Yes m)
-givenAs NoMessage = NoGiven
+givenAs (NoMessage why) = NoGiven refusal.State
 
 unfoldable pub givenFrom : ℕ → ℕ → ℕ → ℕ → ℕ → GivenRead
 givenFrom kind house third «data» command =
     pick (eqb kind 0 && eqb house 0 && eqb third 0 && (eqb «data» 0 && eqb command 0)) (Was No)
-    (pick (eqb kind 3 || (eqb «data» 0 && eqb command 0)) (givenAs (messageFrom kind house third «data» command))
-    NoGiven)
+    (pick (asWritten kind «data» command) (givenAs (messageFrom kind house third «data» command))
+    (NoGiven refusal.State))
 
 -- a number of four bytes, highest first
 abbrev pub fromFour : ℕ → ℕ → ℕ → ℕ → ℕ
 fromFour a b c d = ((a * 256 + b) * 256 + c) * 256 + d
 
+-- 6: "a kept half-cycle not 0 or 1, more pairs than its frame has, house or unit above 15"
+unfoldable pub takenReceiver : Receiver → ReceiverRead
+takenReceiver r = judged (unless (receiverOk r) refusal.State ∷ []) (Is r) NoReceiver
+
 abbrev pub receiverWith : List ℕ → GivenRead → ReceiverRead
 receiverWith s (Was g) =
-    Is (record { past = getD s 0 0; at = getD s 1 0; bits = fromFour (getD s 2 0) (getD s 3 0) (getD s 4 0) (getD s 5 0); given = g })
-receiverWith s NoGiven = NoReceiver
+    takenReceiver (record { past = getD s 0 0; at = getD s 1 0; bits = fromFour (getD s 2 0) (getD s 3 0) (getD s 4 0) (getD s 5 0); given = g })
+receiverWith s (NoGiven why) = NoReceiver why
 
--- the receiver that bytes hold: eleven of them, with a message given before or none
-unfoldable pub receiverFrom : List ℕ → ReceiverRead
-receiverFrom s =
-    pick (eqb (length s) RECEIVER-BYTES)
+-- the receiver that bytes hold: eleven of them, with a message given before or none, in a state that is not refused
+unfoldable pub receiverIn : List ℕ → ReceiverRead
+receiverIn s =
+    judged (unless (eqb (length s) RECEIVER-BYTES) refusal.State ∷ [])
     (receiverWith s (givenFrom (getD s 6 0) (getD s 7 0) (getD s 8 0) (getD s 9 0) (getD s 10 0)))
     NoReceiver
+
+abbrev pub isReceiver : ReceiverRead → Bool
+isReceiver (Is r) = true
+isReceiver (NoReceiver why) = false
+
+abbrev pub holdsReceiver : List ℕ → Bool
+holdsReceiver s = isReceiver (receiverIn s)
 
 -- the bytes of a receiver
 abbrev pub givenBytes : Given → List ℕ
@@ -62,63 +77,101 @@ givenBytes (Yes m) = messageBytes m
 unfoldable pub receiverBytes : Receiver → List ℕ
 receiverBytes r =
     r .past ∷ r .at
-    ∷ (r .bits / 2 ^ 24 % 256) ∷ (r .bits / 2 ^ 16 % 256) ∷ (r .bits / 2 ^ 8 % 256) ∷ (r .bits % 256)
+    ∷ (r .bits / 2 ^ 24) ∷ (r .bits / 2 ^ 16 % 256) ∷ (r .bits / 2 ^ 8 % 256) ∷ (r .bits % 256)
     ∷ givenBytes (r .given)
 
--- eleven lent bytes hold the receiver at exit; bytes that are not eleven are left as they are
-unfoldable pub stateAfter : Receiver → List ℕ → List ℕ
-stateAfter r s = pick (eqb (length s) RECEIVER-BYTES) (receiverBytes r) s
+-- ---- a fresh receiver in lent bytes
+
+abbrev pub freshCauses : List ℕ → List Cause
+freshCauses state = unless (eqb (length state) RECEIVER-BYTES) refusal.State ∷ []
+
+unfoldable pub freshAnswer : List ℕ → CountAnswer
+freshAnswer state = judged (freshCauses state) (Done 0) Refused
+
+unfoldable pub freshAfter : List ℕ → List ℕ
+freshAfter state = judged (freshCauses state) (receiverBytes freshReceiver) (λ why. state)
 
 -- ---- an event: its code, and its message's five bytes, or five 0
 
--- NOTHING 0, MESSAGE 1, REPEAT 2; BROKEN 10 and 11, and the refusals of a step, by their numbers
+-- MESSAGE 1, REPEAT 2, and else the event's number: NOTHING 0, BROKEN 10 and 11, a half-cycle that is not 0 or 1 5
 abbrev pub eventCode : Event → ℕ
-eventCode Nothing = 0
 eventCode (Gives m) = 1
 eventCode Repeat = 2
-eventCode BrokenPair = PAIR
-eventCode BrokenUnsupported = UNSUPPORTED
-eventCode RefusedHalf = HALF
-eventCode RefusedState = STATE
+eventCode Nothing = eventNumber Nothing
+eventCode BrokenPair = eventNumber BrokenPair
+eventCode BrokenUnsupported = eventNumber BrokenUnsupported
+eventCode (Stays why) = eventNumber (Stays why)
 
 abbrev pub eventMessage : Event → List ℕ
-eventMessage Nothing = givenBytes No
 eventMessage (Gives m) = messageBytes m
 eventMessage Repeat = givenBytes No
+eventMessage Nothing = givenBytes No
 eventMessage BrokenPair = givenBytes No
 eventMessage BrokenUnsupported = givenBytes No
-eventMessage RefusedHalf = givenBytes No
-eventMessage RefusedState = givenBytes No
+eventMessage (Stays why) = givenBytes No
 
 abbrev pub eventBytes : Event → List ℕ
 eventBytes e = eventCode e ∷ eventMessage e
 
--- the event that six bytes say, and NOTHING where they say none
-abbrev pub eventGives : MessageRead → Event
-eventGives (Says m) = Gives m
-eventGives NoMessage = Nothing
+-- ---- one step for each half-cycle, by the receiver in lent bytes
 
-unfoldable pub eventFrom : ℕ → ℕ → ℕ → ℕ → ℕ → ℕ → Event
-eventFrom code kind house third «data» command =
-    pick (eqb code 1) (eventGives (messageFrom kind house third «data» command))
-    (pick (eqb code 2) Repeat
-    (pick (eqb code PAIR) BrokenPair
-    (pick (eqb code UNSUPPORTED) BrokenUnsupported
-    (pick (eqb code HALF) RefusedHalf
-    (pick (eqb code STATE) RefusedState
-    Nothing)))))
+-- what it says, one event for each half-cycle; bytes that hold no receiver say nothing
+abbrev pub eventsBy : ReceiverRead → List ℕ → List Event
+eventsBy (Is r) halves = eventsOf r halves
+eventsBy (NoReceiver why) halves = []
 
--- an event at a buffer's front; a buffer below six bytes is left as it is
-unfoldable pub firstAfter : Event → List ℕ → List ℕ
-firstAfter e buf = pick (leb 6 (length buf)) (eventBytes e ++ drop 6 buf) buf
+unfoldable pub eventsHeard : List ℕ → List ℕ → List Event
+eventsHeard state halves = eventsBy (receiverIn state) halves
 
--- ---- one step for each half-cycle
+-- its bytes after the last half-cycle; bytes that hold no receiver stay
+abbrev pub bytesBy : ReceiverRead → List ℕ → List ℕ → List ℕ
+bytesBy (Is r) state halves = receiverBytes (receiverAfter r halves)
+bytesBy (NoReceiver why) state halves = state
 
--- the receiver after the last; refused where the events, six bytes each, have no room
-unfoldable pub runOf : Receiver → List ℕ → ℕ → RunAnswer
-runOf r halves room = pick (leb (6 * length halves) room) (Ran (receiverAfter r halves)) RefusedShort
+unfoldable pub bytesAfter : List ℕ → List ℕ → List ℕ
+bytesAfter state halves = bytesBy (receiverIn state) state halves
+
+-- 6, and 9 where the events, six bytes each, have no room. A half-cycle that is not 0 or 1 is no cause: its event has the number 5.
+abbrev pub receiveCauses : List ℕ → List ℕ → ℕ → List Cause
+receiveCauses state halves room = unless (holdsReceiver state) refusal.State ∷ unless (leb (6 * length halves) room) refusal.Short ∷ []
+
+-- how many half-cycles came
+unfoldable pub receiveAnswer : List ℕ → List ℕ → ℕ → CountAnswer
+receiveAnswer state halves room = judged (receiveCauses state halves room) (Done (length halves)) Refused
+
+unfoldable pub stateAfter : List ℕ → List ℕ → ℕ → List ℕ
+stateAfter state halves room = judged (receiveCauses state halves room) (bytesAfter state halves) (λ why. state)
 
 -- the events' bytes one after the other, and what stands beyond them as it was
-unfoldable pub eventsAfter : Receiver → List ℕ → List ℕ → List ℕ
-eventsAfter r halves events =
-    pick (leb (6 * length halves) (length events)) (flatMap eventBytes (eventsOf r halves) ++ drop (6 * length halves) events) events
+unfoldable pub eventsAfter : List ℕ → List ℕ → List ℕ → List ℕ
+eventsAfter state halves events =
+    judged (receiveCauses state halves (length events))
+    (flatMap eventBytes (eventsHeard state halves) ++ drop (6 * length halves) events)
+    (λ why. events)
+
+-- ---- what holds of them: proofs/ReadBack.antt and proofs/RunLaws.antt
+
+-- "Within one routine the lowest number that applies is given."
+abbrev pub LowestFirst : Type 0
+LowestFirst = (state halves : List ℕ) (room : ℕ) → lowest (receiveCauses state halves room) ≡ numberGiven (receiveCauses state halves room)
+
+-- a receiver is read back from its bytes
+abbrev pub ReceiversReadBack : Type 0
+ReceiversReadBack = (r : Receiver) → receiverOk r ≡ true → receiverIn (receiverBytes r) ≡ Is r
+
+-- fresh bytes hold a receiver, and bytes that hold one still do after any half-cycles
+pub record StaysReceiver : Type 0 where
+  pub fresh : (state : List ℕ) → length state ≡ RECEIVER-BYTES → receiverIn (freshAfter state) ≡ Is freshReceiver
+  pub after : (state halves : List ℕ) → holdsReceiver state ≡ true → holdsReceiver (bytesAfter state halves) ≡ true
+
+-- the code is 1 for MESSAGE and for no other event of a receiver, and its message is then read back; two events with the same bytes are one
+pub record EventsReadBack : Type 0 where
+  pub given : (r : Receiver) (h : ℕ) (m : Message) → stepOf r h .event ≡ Gives m → messageIn (drop 1 (eventBytes (Gives m))) ≡ Says m
+  pub code-one : (r : Receiver) (h : ℕ) → eventCode (stepOf r h .event) ≡ 1 → (m : Message) × (stepOf r h .event ≡ Gives m)
+  pub one-to-one : (r q : Receiver) (h k : ℕ) → eventBytes (stepOf r h .event) ≡ eventBytes (stepOf q k .event)
+      → stepOf r h .event ≡ stepOf q k .event
+
+-- half-cycles in two parts, one call for each, say and leave what they do in one
+pub record TwoParts : Type 0 where
+  pub events : (state xs ys : List ℕ) → eventsHeard state (xs ++ ys) ≡ eventsHeard state xs ++ eventsHeard (bytesAfter state xs) ys
+  pub state : (state xs ys : List ℕ) → bytesAfter state (xs ++ ys) ≡ bytesAfter (bytesAfter state xs) ys

@@ -1,42 +1,58 @@
-// Messages, receivers and events as numbers and bytes: what a caller in another language hands in and gets back.
-use message::Meaning;
+// Messages, receivers, events and answers as numbers and bytes: what a caller in another language hands in and gets back.
+use ground::CountAnswer;
+use ground::Refusal;
+use ground::refusal_number;
 use message::Message;
+use message::codes::FunctionRead;
+use message::codes::function_at;
 use message::codes::function_code;
-use message::codes::meaning;
 ghost use mathlib.Core.Path.{_≡_};
-ghost use Rattle.wire.specs.Messages.{messageFrom, listed, messageBytes};
+ghost use Rattle.ground.specs.Refusals.{numberGiven};
+ghost use Rattle.wire.specs.Messages.{takenMessage, messageFrom, messageCauses, messageReport, listed, messageBytes};
+ghost use Rattle.wire.specs.Packed.{packed};
 
 pub mod receivers;
 
 // What five numbers say.
 pub enum MessageRead {
     Message(Message),
-    NoMessage,
+    Refused(Refusal),
 }
 
 // The five numbers of a message: its kind (1 address, 2 function, 3 extended), its house, its unit or its function's code, and the
 // data and the command of an extended one.
-pub struct Five {
-    pub kind: u8,
-    pub house: u8,
-    pub third: u8,
-    pub data: u8,
-    pub command: u8,
+pub(crate) struct Five {
+    kind: u8,
+    house: u8,
+    third: u8,
+    data: u8,
+    command: u8,
 }
 
-// The message that five numbers say. Data and command count for an extended message only. A house or a unit above 15 is not
-// judged here.
+// A message, refused where its house or unit is above 15.
+fn taken(m: Message) -> MessageRead
+    ensures { λ r. ⌜ r ≡ takenMessage m ⌝ }
+{
+    if !message::valid(m) {
+        return MessageRead::Refused(Refusal::Message);
+    }
+    MessageRead::Message(m)
+}
+
+// The message that five numbers say. Data and command count for an extended message only. Refused where they make no message, or
+// one with a house or unit above 15.
 pub fn message_from(kind: u8, house: u8, third: u8, data: u8, command: u8) -> MessageRead
-    ensures { λ r. ⌜ r ≡ messageFrom kind house third «data» command ⌝ }
+    ensures answer { λ r. ⌜ r ≡ messageFrom kind house third «data» command ⌝ }
+    ensures number { λ r. ⌜ messageReport r .number ≡ numberGiven (messageCauses kind house third) ⌝ }
 {
     if kind == 1 {
-        return MessageRead::Message(Message::Address {
+        return taken(Message::Address {
             house: house,
             unit: third,
         });
     }
     if kind == 3 {
-        return MessageRead::Message(Message::Extended {
+        return taken(Message::Extended {
             house: house,
             unit: third,
             data: data,
@@ -44,20 +60,19 @@ pub fn message_from(kind: u8, house: u8, third: u8, data: u8, command: u8) -> Me
         });
     }
     if kind != 2 {
-        return MessageRead::NoMessage;
+        return MessageRead::Refused(Refusal::Message);
     }
-    match meaning(third) {
-        Meaning::Function(f) => MessageRead::Message(Message::Function {
+    match function_at(third) {
+        FunctionRead::Function(f) => taken(Message::Function {
             house: house,
             function: f,
         }),
-        Meaning::Extended => MessageRead::NoMessage,
-        Meaning::Unsupported => MessageRead::NoMessage,
+        FunctionRead::Refused(_) => MessageRead::Refused(Refusal::Message),
     }
 }
 
 // The five numbers of a message, 0 for data and command where it has none.
-fn five_of(m: Message) -> Five
+pub(crate) fn five_of(m: Message) -> Five
     ensures { λ r. ⌜ listed r ≡ messageBytes m ⌝ }
 {
     match m {
@@ -87,5 +102,15 @@ fn five_of(m: Message) -> Five
             data: data,
             command: command,
         },
+    }
+}
+
+// An answer as one number: its count, and in the lowest eight bits the number given back.
+pub fn pack(a: CountAnswer) -> u64
+    ensures { λ r. ⌜ r ≡ packed a ⌝ }
+{
+    match a {
+        CountAnswer::Done(n) => n as u64 % 72057594037927936 * 256,
+        CountAnswer::Refused(why) => refusal_number(why) as u64,
     }
 }

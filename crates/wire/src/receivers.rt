@@ -1,43 +1,38 @@
-// A receiver and its events as bytes, and a run of a receiver over half-cycles that are lent.
+// A receiver in eleven lent bytes: made fresh there, and run over half-cycles that are lent.
 use crate::Five;
 use crate::MessageRead;
 use crate::five_of;
 use crate::message_from;
+use ground::CountAnswer;
+use ground::Refusal;
+use ground::refusal_number;
 use message::Message;
 use receiver::Event;
 use receiver::Given;
-use receiver::Heard;
 use receiver::Receiver;
 use receiver::step;
 ghost use mathlib.Core.Path.{_≡_};
-ghost use mathlib.Core.List.{_∷_, flatMap};
+ghost use mathlib.Core.List.{[], _∷_, flatMap};
 ghost use Prim.Native.Nat.{_+_, _*_, _≤_};
 ghost use lib.ListN.{length};
 ghost use lib.Seq.{sets};
-ghost use Rattle.receiver.specs.Receivers.{stepOf};
+ghost use Rattle.ground.specs.Refusals.{countReport, reports, refuses, judged};
 ghost use Rattle.receiver.specs.Hearing.{eventsOf, receiverAfter};
 ghost use Rattle.receiver.specs.declared.Given.the-variants.{No};
 ghost use Rattle.wire.specs.Messages.{listed, messageBytes};
-ghost use Rattle.wire.specs.Receivers.{givenFrom, fromFour, receiverFrom, givenBytes, stateAfter, eventBytes, eventFrom, firstAfter, runOf, eventsAfter};
+ghost use Rattle.wire.specs.Receivers.{givenFrom, fromFour, takenReceiver, receiverIn, givenBytes, receiverBytes, eventBytes};
+ghost use Rattle.wire.specs.Receivers.{freshCauses, freshAnswer, freshAfter, receiveCauses, receiveAnswer, stateAfter, eventsAfter};
 
 // What the five bytes of the message given before say.
 enum GivenRead {
     Given(Given),
-    NoGiven,
+    Refused(Refusal),
 }
 
 // What a receiver's bytes say.
 pub enum ReceiverRead {
     Receiver(Receiver),
-    NoReceiver,
-}
-
-// What a run over half-cycles answers.
-pub enum RunAnswer {
-    // The receiver after the last of them.
-    Ran(Receiver),
-    // The buffer of events is too short.
-    RefusedShort,
+    Refused(Refusal),
 }
 
 // The message given before, if any: five 0, or a message's five bytes.
@@ -49,11 +44,11 @@ fn given_from(kind: u8, house: u8, third: u8, data: u8, command: u8) -> GivenRea
         return GivenRead::Given(Given::No);
     }
     if !((kind == 3) | ends) {
-        return GivenRead::NoGiven;
+        return GivenRead::Refused(Refusal::State);
     }
     match message_from(kind, house, third, data, command) {
         MessageRead::Message(m) => GivenRead::Given(Given::Yes(m)),
-        MessageRead::NoMessage => GivenRead::NoGiven,
+        MessageRead::Refused(_) => GivenRead::Refused(Refusal::State),
     }
 }
 
@@ -64,22 +59,33 @@ fn number_of(a: u8, b: u8, c: u8, d: u8) -> u32
     ((a as u32 * 256 + b as u32) * 256 + c as u32) * 256 + d as u32
 }
 
-// The receiver that eleven bytes hold.
-pub fn receiver_from(state: &[u8]) -> ReceiverRead
-    ensures { λ r. ⌜ r ≡ receiverFrom (now (state .entry)) ⌝ }
+// A receiver, refused where it is in a state that there is not.
+fn taken(r: Receiver) -> ReceiverRead
+    ensures { λ o. ⌜ o ≡ takenReceiver r ⌝ }
+{
+    if !receiver::valid(r) {
+        return ReceiverRead::Refused(Refusal::State);
+    }
+    ReceiverRead::Receiver(r)
+}
+
+// The receiver that bytes hold. Refused where they are not eleven, where the last five of them are neither 0 nor a message's, and
+// where the receiver is in a state that there is not.
+fn receiver_from(state: &[u8]) -> ReceiverRead
+    ensures { λ r. ⌜ r ≡ receiverIn (now (state .entry)) ⌝ }
 {
     if state.len() != 11 {
-        return ReceiverRead::NoReceiver;
+        return ReceiverRead::Refused(Refusal::State);
     }
     let bits = number_of(state[2], state[3], state[4], state[5]);
     match given_from(state[6], state[7], state[8], state[9], state[10]) {
-        GivenRead::Given(g) => ReceiverRead::Receiver(Receiver {
+        GivenRead::Given(g) => taken(Receiver {
             past: state[0],
             at: state[1],
             bits: bits,
             given: g,
         }),
-        GivenRead::NoGiven => ReceiverRead::NoReceiver,
+        GivenRead::Refused(why) => ReceiverRead::Refused(why),
     }
 }
 
@@ -99,18 +105,16 @@ fn five_given(given: Given) -> Five
     }
 }
 
-// Puts a receiver into its eleven lent bytes; bytes that are not eleven are left as they are.
-pub fn put_receiver(state: &mut [u8], r: Receiver)
-    ensures { λ _. ⌜ now (state .exit) ≡ stateAfter r (now (state .entry)) ⌝ }
+// Puts a receiver into its eleven lent bytes.
+fn put_receiver(state: &mut [u8], r: Receiver)
+    requires { ⌜ length (now state) ≡ 11 ⌝ }
+    ensures { λ _. ⌜ now (state .exit) ≡ receiverBytes r ⌝ }
 {
-    if state.len() != 11 {
-        return;
-    }
     let given = r.given;
     let five = five_given(given);
     state[0] = r.past;
     state[1] = r.at;
-    state[2] = (r.bits / 16777216 % 256) as u8;
+    state[2] = (r.bits / 16777216) as u8;
     state[3] = (r.bits / 65536 % 256) as u8;
     state[4] = (r.bits / 256 % 256) as u8;
     state[5] = (r.bits % 256) as u8;
@@ -119,6 +123,19 @@ pub fn put_receiver(state: &mut [u8], r: Receiver)
     state[8] = five.third;
     state[9] = five.data;
     state[10] = five.command;
+}
+
+// Makes eleven lent bytes a receiver that hunts and has received no half-cycle. Refused, it changes nothing.
+pub fn fresh(state: &mut [u8]) -> CountAnswer
+    ensures answer { λ r. ⌜ r ≡ freshAnswer (now (state .entry)) ⌝ }
+    ensures report { λ r. ⌜ countReport r ≡ judged (freshCauses (now (state .entry))) (reports (0 ∷ [])) refuses ⌝ }
+    ensures state { λ _. ⌜ now (state .exit) ≡ freshAfter (now (state .entry)) ⌝ }
+{
+    if state.len() != 11 {
+        return CountAnswer::Refused(Refusal::State);
+    }
+    put_receiver(state, receiver::fresh());
+    CountAnswer::Done(0)
 }
 
 // Puts five numbers from `at` on.
@@ -162,8 +179,7 @@ fn put_event(events: &mut [u8], at: usize, e: Event)
         Event::Repeat => put_plain(events, at, 2),
         Event::BrokenPair => put_plain(events, at, 10),
         Event::BrokenUnsupported => put_plain(events, at, 11),
-        Event::RefusedHalf => put_plain(events, at, 5),
-        Event::RefusedState => put_plain(events, at, 6),
+        Event::Refused(why) => put_plain(events, at, refusal_number(why)),
     }
 }
 
@@ -186,57 +202,25 @@ fn run_all(r: Receiver, halves: &[u8], events: &mut [u8]) -> Receiver
     current
 }
 
-// The event that six bytes say.
-fn event_from(code: u8, kind: u8, house: u8, third: u8, data: u8, command: u8) -> Event
-    ensures { λ r. ⌜ r ≡ eventFrom code kind house third «data» command ⌝ }
+// One step for each half-cycle by the receiver in the lent bytes, which then hold the receiver after the last, and six bytes for each
+// event at the front of the lent buffer; the count is of the half-cycles. Refused, it changes nothing. A half-cycle that is not 0 or
+// 1 is no refusal: its event says so, and the next one follows.
+pub fn receive(state: &mut [u8], halves: &[u8], events: &mut [u8]) -> CountAnswer
+    ensures answer { λ r. ⌜ r ≡ receiveAnswer (now (state .entry)) (now (halves .entry)) (length (now (events .entry))) ⌝ }
+    ensures report { λ r.
+        ⌜ countReport r ≡ judged (receiveCauses (now (state .entry)) (now (halves .entry)) (length (now (events .entry)))) (reports (length (now (halves .entry)) ∷ [])) refuses ⌝ }
+    ensures state { λ _. ⌜ now (state .exit) ≡ stateAfter (now (state .entry)) (now (halves .entry)) (length (now (events .entry))) ⌝ }
+    ensures events { λ _. ⌜ now (events .exit) ≡ eventsAfter (now (state .entry)) (now (halves .entry)) (now (events .entry)) ⌝ }
 {
-    match code {
-        1 => match message_from(kind, house, third, data, command) {
-            MessageRead::Message(m) => Event::Message(m),
-            MessageRead::NoMessage => Event::Nothing,
-        },
-        2 => Event::Repeat,
-        10 => Event::BrokenPair,
-        11 => Event::BrokenUnsupported,
-        5 => Event::RefusedHalf,
-        6 => Event::RefusedState,
-        _ => Event::Nothing,
+    match receiver_from(state) {
+        ReceiverRead::Receiver(r) => {
+            if events.len() / 6 < halves.len() {
+                return CountAnswer::Refused(Refusal::Short);
+            }
+            let next = run_all(r, halves, events);
+            put_receiver(state, next);
+            CountAnswer::Done(halves.len())
+        }
+        ReceiverRead::Refused(why) => CountAnswer::Refused(why),
     }
-}
-
-// One step of a receiver, by way of the loop above. A library that holds both has the step's code once, which is then part of the
-// loop.
-pub fn hear(r: Receiver, half: u8) -> Heard
-    ensures { λ o. ⌜ o ≡ stepOf r half ⌝ }
-{
-    let halves = [half];
-    let mut six = [0; 6];
-    let next = run_all(r, &halves, &mut six);
-    let event = event_from(six[0], six[1], six[2], six[3], six[4], six[5]);
-    Heard {
-        event: event,
-        next: next,
-    }
-}
-
-// Puts the six bytes of an event at the front of a lent buffer; one with less room is left as it is.
-pub fn put_first(out: &mut [u8], e: Event)
-    ensures { λ _. ⌜ now (out .exit) ≡ firstAfter e (now (out .entry)) ⌝ }
-{
-    if out.len() < 6 {
-        return;
-    }
-    put_event(out, 0, e);
-}
-
-// One step for each half-cycle: the receiver after the last, and six bytes for each event at the front of the lent buffer. Refused,
-// it changes nothing.
-pub fn run(r: Receiver, halves: &[u8], events: &mut [u8]) -> RunAnswer
-    ensures answer { λ o. ⌜ o ≡ runOf r (now (halves .entry)) (length (now (events .entry))) ⌝ }
-    ensures events { λ _. ⌜ now (events .exit) ≡ eventsAfter r (now (halves .entry)) (now (events .entry)) ⌝ }
-{
-    if events.len() / 6 < halves.len() {
-        return RunAnswer::RefusedShort;
-    }
-    RunAnswer::Ran(run_all(r, halves, events))
 }
