@@ -147,9 +147,9 @@ module _ {n : ℕ} {slots : List Station} {draws lines marks linesNow marksNow :
         g .counting ∙ ap (λ (k : ℕ). length (momentAfter n slots draws k .past)) all,
         (
           g .lining
-          ∙ ap (λ (l : List ℕ). lineBytes turns ++ l) (drop-of-length-le lines end)
-          ∙ append-nil (lineBytes turns)
-          ∙ ap (λ (k : ℕ). lineBytes (turnsOf n slots draws k)) all,
+              ∙ ap (λ (l : List ℕ). lineBytes turns ++ l) (drop-of-length-le lines end)
+              ∙ append-nil (lineBytes turns)
+              ∙ ap (λ (k : ℕ). lineBytes (turnsOf n slots draws k)) all,
           g .marking ∙ ap (λ (k : ℕ). flatMap markBytes (turnsOf n slots draws k) ++ drop (2 * k) marks) all,
         ),
       )

@@ -71,10 +71,16 @@ module _ (l : Lent) where
       let n = length (l .loads) in
       let k = length (l .lines) in
       let answer : Done count ≡ runAnswer l =
-      ap Done (did .0 ∙ ap (λ (s : List Station). length (momentAfter n s (l .draws) k .past)) from) ∙ sym (nothing-refused _ _ (runCauses l) none) in
-      (answer, (reported answer,
-      (did .1 .0 ∙ ap (λ (s : List Station). lineBytes (turnsOf n s (l .draws) k)) from ∙ sym (nothing-refused _ _ (runCauses l) none),
-      did .1 .1 ∙ ap (λ (s : List Station). flatMap markBytes (turnsOf n s (l .draws) k) ++ drop (2 * k) (l .marks)) from ∙ sym (nothing-refused _ _ (runCauses l) none))))
+      ap Done (did .0 ∙ ap (λ (s : List Station). length (momentAfter n s (l .draws) k .past)) from) ∙ sym (nothing-refused _ _ (runCauses l) none) in (
+        answer,
+        (
+          reported answer,
+          (
+            did .1 .0 ∙ ap (λ (s : List Station). lineBytes (turnsOf n s (l .draws) k)) from ∙ sym (nothing-refused _ _ (runCauses l) none),
+            did .1 .1 ∙ ap (λ (s : List Station). flatMap markBytes (turnsOf n s (l .draws) k) ++ drop (2 * k) (l .marks)) from ∙ sym (nothing-refused _ _ (runCauses l) none),
+          ),
+        ),
+      )
 
 pub run-lowest : RunLowest
 run-lowest l = lowest-given (runCauses l) refl

@@ -177,7 +177,9 @@ pub turn-promise : {o : Turn} (s : Station) (heard draw : ℕ) → o ≡ turnOf 
     × (turnReport (o .answer) ≡ judged (turnCauses s heard draw) (reports (isDone (heldMoves (s .held) s heard draw .answer) ∷ [])) refuses)
 unfolding turnOf
 turn-promise s heard draw e =
-    let report : Turn → Report Bool = λ o. turnReport (o .answer) in
-    (e, ap report e
-    ∙ judged-map report _ _ (turnCauses s heard draw)
-    ∙ ap (λ (x : Report Bool). judged (turnCauses s heard draw) x refuses) (held-reports (s .held) s heard draw))
+    let report : Turn → Report Bool = λ o. turnReport (o .answer) in (
+      e,
+      ap report e
+          ∙ judged-map report _ _ (turnCauses s heard draw)
+          ∙ ap (λ (x : Report Bool). judged (turnCauses s heard draw) x refuses) (held-reports (s .held) s heard draw),
+    )

@@ -1,2 +1,4 @@
 pub mod MessageLaws
 pub mod ReadBack
+pub mod RunLaws
+pub mod HeardLaws

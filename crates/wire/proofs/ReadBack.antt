@@ -1,7 +1,7 @@
 -- What is written is read back: a receiver's eleven bytes, an event's six; and runs in two parts.
 --
 --     receivers-read-back, stays-receiver      ReceiversReadBack, StaysReceiver
---     held-valid, run-valid                    a receiver that bytes hold is valid, and after any half-cycles
+--     held-valid, held-length, run-valid       bytes that hold a receiver are eleven, it is valid, and so after any half-cycles
 --     events-read-back                         EventsReadBack
 --     two-parts                                TwoParts
 use mathlib.Core.Path.{_≡_, refl, sym, ap, ap₂, _∙_}
@@ -9,7 +9,7 @@ use mathlib.Core.Bool.{Bool, true, false, false≢true, _||_}
 use mathlib.Core.List.{List, [], _∷_, _++_}
 use Prim.Native.Nat.{ℕ, _+_, _*_, _/_, _%_, _^_}
 use native.Mathlib.Omega.{arith}
-use borrow.Author.Tests.{eq-eqb}
+use borrow.Author.Tests.{eq-eqb, eqb-true}
 use lib.Dec.{eqb, leb}
 use lib.ListN.{length, getD, drop}
 use Rattle.ground.specs.Choice.{pick}
@@ -87,6 +87,14 @@ held-valid s r e = whole (eqb (length s) 11) (givenFrom (getD s 6 0) (getD s 7 0
     whole true (Was g) e′ = taken-back _ r e′
     whole true (NoGiven why) e′ = cc
     whole false g e′ = cc
+
+pub held-length : (s : List ℕ) (r : Receiver) → receiverIn s ≡ Is r → length s ≡ 11
+unfolding receiverIn judged
+held-length s r e = eqb-true (length s) 11 (go (eqb (length s) 11) _ e)
+  where
+    go : (b : Bool) (x : ReceiverRead) → pick b x (NoReceiver refusal.State) ≡ Is r → b ≡ true
+    go true x e′ = refl
+    go false x e′ = cc
 
 pub run-valid : (r : Receiver) (hs : List ℕ) → receiverOk r ≡ true → receiverOk (receiverAfter r hs) ≡ true
 unfolding receiverAfter

@@ -20,7 +20,7 @@ ghost use Rattle.ground.specs.Refusals.{countReport, reports, refuses, judged};
 ghost use Rattle.receiver.specs.Hearing.{eventsOf, receiverAfter};
 ghost use Rattle.receiver.specs.declared.Given.the-variants.{No};
 ghost use Rattle.wire.specs.Messages.{listed, messageBytes};
-ghost use Rattle.wire.specs.Receivers.{givenFrom, fromFour, takenReceiver, receiverIn, givenBytes, receiverBytes, eventBytes};
+ghost use Rattle.wire.specs.Receivers.{givenFrom, fromFour, takenReceiver, receiverIn, givenBytes, receiverBytes, eventBytes, holdsReceiver};
 ghost use Rattle.wire.specs.Receivers.{freshCauses, freshAnswer, freshAfter, receiveCauses, receiveAnswer, stateAfter, eventsAfter};
 
 // What the five bytes of the message given before say.
@@ -125,6 +125,16 @@ fn put_receiver(state: &mut [u8], r: Receiver)
     state[10] = five.command;
 }
 
+// Whether bytes hold a receiver, in a state that there is.
+pub fn holds(state: &[u8]) -> bool
+    ensures { λ b. ⌜ b ≡ holdsReceiver (now (state .entry)) ⌝ }
+{
+    match receiver_from(state) {
+        ReceiverRead::Receiver(_) => true,
+        ReceiverRead::Refused(_) => false,
+    }
+}
+
 // Makes eleven lent bytes a receiver that hunts and has received no half-cycle. Refused, it changes nothing.
 pub fn fresh(state: &mut [u8]) -> CountAnswer
     ensures answer { λ r. ⌜ r ≡ freshAnswer (now (state .entry)) ⌝ }
@@ -221,6 +231,6 @@ pub fn receive(state: &mut [u8], halves: &[u8], events: &mut [u8]) -> CountAnswe
             put_receiver(state, next);
             CountAnswer::Done(halves.len())
         }
-        ReceiverRead::Refused(why) => CountAnswer::Refused(why),
+        ReceiverRead::Refused(_) => CountAnswer::Refused(Refusal::State),
     }
 }

@@ -1,29 +1,27 @@
+-- `receivers::fresh` meets its contract: its one test is its one cause.
+use mathlib.Core.Path.{ap, _∙_}
+use Rattle.ground.proofs.Causes.{ladder}
+use Rattle.wire.specs.Receivers.{receiverBytes, freshAnswer, freshAfter}
+use borrow.Author.Needs.{needs}
 use Rattle.wire.proofs.receivers.fresh.Statement.{statement}
 use Rattle.wire.proofs.receivers.fresh.Tie as tie
-use Rattle.wire.proofs.receivers.fresh.Reads as reads
-use Rattle.wire.proofs.receivers.fresh.Lts as lts
-use Rattle.receiver.proofs.fresh.Reads as fresh-reads
-use Rattle.wire.proofs.receivers.put_receiver.Reads as put-receiver-reads
 
--- src/receivers.rt:135:9
 returns : tie.Need-returns
-returns c = ?
+unfolding freshAnswer freshAfter
+returns c = (search ladder, (search ladder, search ladder))
 
--- src/receivers.rt:137:25
 fresh-requires : tie.Need-fresh-requires
-fresh-requires c κs = ?
+fresh-requires c κs = search needs
 
--- src/receivers.rt:137:5
 put-receiver-requires : tie.Need-put-receiver-requires
-put-receiver-requires c κs = ?
+put-receiver-requires c κs = search needs
 
--- src/receivers.rt:129:1
 same-length : tie.Need-same-length
-same-length c = ?
+same-length c = search needs
 
--- src/receivers.rt:129:1
 returns-2 : tie.Need-returns-2
-returns-2 c = ?
+unfolding freshAnswer freshAfter
+returns-2 c = let put = c .before .before .put-receiver .ensures ∙ ap receiverBytes (c .before .before .before .fresh .ensures) in (search ladder, (search ladder, search ladder))
 
 pub fresh-spec : {M : Type 1} → statement M
 fresh-spec =

@@ -1,17 +1,11 @@
 -- `given_from` meets its contract: its tests are the definition's, in the same order.
 use mathlib.Core.Path.{sym, _∙_}
-use mathlib.Core.Bool.{Bool, _&&_, _||_}
-use Prim.Native.Nat.{ℕ}
-use lib.Dec.{eqb}
 use borrow.Author.Tests.{not-true, not-false}
+use Rattle.wire.specs.Messages.{asWritten}
 use Rattle.wire.specs.Receivers.{givenFrom}
 use borrow.Author.Needs.{needs}
 use Rattle.wire.proofs.receivers.given_from.Statement.{statement}
 use Rattle.wire.proofs.receivers.given_from.Tie as tie
-
--- an extended message, or no data and no command
-abbrev carries : ℕ → ℕ → ℕ → Bool
-carries k d c = eqb k 3 || (eqb d 0 && eqb c 0)
 
 returns : tie.Need-returns
 unfolding givenFrom
@@ -19,7 +13,7 @@ returns c = simp (c .if1 .taken)
 
 returns-2 : tie.Need-returns-2
 unfolding givenFrom
-returns-2 c = simp (c .before .if1 .left, not-true (carries (c .before .before .args .kind) (c .before .before .args .data) (c .before .before .args .command)) (c .if2 .taken))
+returns-2 c = simp (c .before .if1 .left, not-true (asWritten (c .before .before .args .kind) (c .before .before .args .data) (c .before .before .args .command)) (c .if2 .taken))
 
 message-from-requires : tie.Need-message-from-requires
 message-from-requires c κs = search needs
@@ -32,11 +26,11 @@ enum-told c = search needs
 
 returns-3 : tie.Need-returns-3
 unfolding givenFrom
-returns-3 c = simp (c .before .before .before .before .before .if1 .left, not-false (carries (c .before .before .before .before .before .before .args .kind) (c .before .before .before .before .before .before .args .data) (c .before .before .before .before .before .before .args .command)) (c .before .before .before .before .if2 .left), sym (c .before .before .before .message-from .ensures) ∙ c .before .m .given .1)
+returns-3 c = simp (c .before .before .before .before .before .if1 .left, not-false (asWritten (c .before .before .before .before .before .before .args .kind) (c .before .before .before .before .before .before .args .data) (c .before .before .before .before .before .before .args .command)) (c .before .before .before .before .if2 .left), sym (c .before .before .before .message-from .ensures .0) ∙ c .before .m .given .1)
 
 returns-4 : tie.Need-returns-4
 unfolding givenFrom
-returns-4 c = simp (c .before .before .before .before .if1 .left, not-false (carries (c .before .before .before .before .before .args .kind) (c .before .before .before .before .before .args .data) (c .before .before .before .before .before .args .command)) (c .before .before .before .if2 .left), sym (c .before .before .message-from .ensures) ∙ c .enum-told .given .1)
+returns-4 c = simp (c .before .before .before .before .if1 .left, not-false (asWritten (c .before .before .before .before .before .args .kind) (c .before .before .before .before .before .args .data) (c .before .before .before .before .before .args .command)) (c .before .before .before .if2 .left), sym (c .before .before .message-from .ensures .0) ∙ c .enum-told .given .1)
 
 pub given-from-spec : {M : Type 1} → statement M
 given-from-spec =

@@ -1,4 +1,5 @@
 -- `put_event` meets its contract: MESSAGE has its message behind its code, and every other event five 0.
+use mathlib.Core.Path.{sym}
 use borrow.Author.Needs.{needs}
 use Rattle.wire.proofs.receivers.put_event.Statement.{statement}
 use Rattle.wire.proofs.receivers.put_event.Tie as tie
@@ -33,17 +34,14 @@ enum-told-4 c = search needs
 put-plain-requires-4 : tie.Need-put-plain-requires-4
 put-plain-requires-4 c κs = search needs
 
-enum-told-5 : tie.Need-enum-told-5
-enum-told-5 c = search needs
+enum-known-e-2 : tie.Need-enum-known-e-2
+enum-known-e-2 c = search needs
+
+refusal-number-requires : tie.Need-refusal-number-requires
+refusal-number-requires c κs = search needs
 
 put-plain-requires-5 : tie.Need-put-plain-requires-5
 put-plain-requires-5 c κs = search needs
-
-enum-told-6 : tie.Need-enum-told-6
-enum-told-6 c = search needs
-
-put-plain-requires-6 : tie.Need-put-plain-requires-6
-put-plain-requires-6 c κs = search needs
 
 same-length : tie.Need-same-length
 same-length c = search needs
@@ -79,13 +77,7 @@ same-length-6 : tie.Need-same-length-6
 same-length-6 c = search needs
 
 returns-6 : tie.Need-returns-6
-returns-6 c = rw (c .before .before .before .before .enum-told5 .given .1) (c .before .before .put-plain5 .ensures)
-
-same-length-7 : tie.Need-same-length-7
-same-length-7 c = search needs
-
-returns-7 : tie.Need-returns-7
-returns-7 c = rw (c .before .before .before .before .enum-told6 .given .1) (c .before .before .put-plain6 .ensures)
+returns-6 c = rw (c .before .before .before .before .before .before .e2 .given .1, sym (c .before .before .before .refusal-number .ensures)) (c .before .before .put-plain5 .ensures)
 
 pub put-event-spec : {M : Type 1} → statement M
 put-event-spec =
@@ -101,10 +93,9 @@ put-event-spec =
     put-plain-requires-3
     enum-told-4
     put-plain-requires-4
-    enum-told-5
+    enum-known-e-2
+    refusal-number-requires
     put-plain-requires-5
-    enum-told-6
-    put-plain-requires-6
     same-length
     returns
     same-length-2
@@ -116,6 +107,4 @@ put-event-spec =
     same-length-5
     returns-5
     same-length-6
-    returns-6
-    same-length-7
-    returns-7)
+    returns-6)

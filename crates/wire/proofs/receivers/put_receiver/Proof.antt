@@ -1,16 +1,10 @@
 -- `put_receiver` meets its contract: the eleven stores are the whole list anew.
 use native.Mathlib.Omega.{arith}
-use borrow.Author.Tests.{ne-eqb}
 use lib.ListN.{length-set}
-use Rattle.wire.specs.Receivers.{stateAfter}
 use Rattle.wire.proofs.RunLaws.{receiver-placed}
 use borrow.Author.Needs.{needs}
 use Rattle.wire.proofs.receivers.put_receiver.Statement.{statement}
 use Rattle.wire.proofs.receivers.put_receiver.Tie as tie
-
-returns : tie.Need-returns
-unfolding stateAfter
-returns c = simp (ne-eqb _ _ (c .if1 .taken))
 
 five-given-requires : tie.Need-five-given-requires
 five-given-requires c κs = search needs
@@ -31,7 +25,7 @@ cast-state-2 : tie.Need-cast-state-2
 cast-state-2 c = search needs
 
 slice-write-state-4 : tie.Need-slice-write-state-4
-slice-write-state-4 c = simp length-set (omega arith)
+slice-write-state-4 c = search needs
 
 cast-state-3 : tie.Need-cast-state-3
 cast-state-3 c = search needs
@@ -63,14 +57,13 @@ slice-write-state-11 c = simp length-set (omega arith)
 same-length : tie.Need-same-length
 same-length c = simp length-set
 
-returns-2 : tie.Need-returns-2
-returns-2 c = receiver-placed (c .before .before .before .before .before .before .before .args .r) (c .before .before .before .before .five-given .result) (c .before .before .before .before .before .before .before .args .state .now) (c .before .before .before .before .before .if1 .left) (c .before .before .before .before .five-given .ensures)
+returns : tie.Need-returns
+returns c = let a = c .before .before .before .before .before .before .args in receiver-placed (a .r) (c .before .before .before .before .five-given .result) (a .state .now) (c .before .before .before .before .before .before .pre) (c .before .before .before .before .five-given .ensures)
 
 pub put-receiver-spec : {M : Type 1} → statement M
 put-receiver-spec =
     tie.close
     (tie.spec
-    returns
     five-given-requires
     slice-write-state
     slice-write-state-2
@@ -88,4 +81,4 @@ put-receiver-spec =
     slice-write-state-10
     slice-write-state-11
     same-length
-    returns-2)
+    returns)

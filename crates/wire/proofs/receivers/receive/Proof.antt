@@ -1,58 +1,50 @@
+-- `receivers::receive` meets its contract: each return is one law of `RunLaws`. The test of room divides, so that it cannot wrap.
+use mathlib.Core.Path.{sym, _∙_}
+use native.Mathlib.Omega.{arith}
+use Rattle.wire.proofs.ReadBack.{held-length}
+use Rattle.wire.proofs.RunLaws.{refused, short, done}
+use borrow.Author.Needs.{needs}
 use Rattle.wire.proofs.receivers.receive.Statement.{statement}
 use Rattle.wire.proofs.receivers.receive.Tie as tie
-use Rattle.wire.proofs.receivers.receive.Reads as reads
-use Rattle.wire.proofs.receivers.receive.Lts as lts
-use Rattle.wire.proofs.receivers.put_receiver.Reads as put-receiver-reads
-use Rattle.wire.proofs.receivers.receiver_from.Reads as receiver-from-reads
-use Rattle.wire.proofs.receivers.run_all.Reads as run-all-reads
 
--- src/receivers.rt:215:11
 receiver-from-requires : tie.Need-receiver-from-requires
-receiver-from-requires c κs = ?
+receiver-from-requires c κs = search needs
 
--- src/receivers.rt:216:32
 enum-known-r : tie.Need-enum-known-r
-enum-known-r c = ?
+enum-known-r c = search needs
 
--- src/receivers.rt:218:17
 same-length : tie.Need-same-length
-same-length c = ?
+same-length c = search needs
 
--- src/receivers.rt:218:17
 returns : tie.Need-returns
-returns c = ?
+returns c = let a = c .before .before .before .before .before .before .before .before .before .args in
+    short (a .state .now) (a .halves .now) (a .events .now) (c .before .before .r .given .0 .0) (sym (c .before .before .before .before .receiver-from .ensures) ∙ c .before .before .r .given .1) (omega arith)
 
--- src/receivers.rt:220:17
 run-all-requires : tie.Need-run-all-requires
-run-all-requires c κs = ?
+run-all-requires c κs = search needs
 
--- src/receivers.rt:221:13
 put-receiver-requires : tie.Need-put-receiver-requires
-put-receiver-requires c κs = ?
+put-receiver-requires c κs = held-length (c .before .before .before .before .before .before .before .before .before .before .before .before .before .before .args .state .now) (c .before .before .before .before .before .before .before .r .given .0 .0) (sym (c .before .before .before .before .before .before .before .before .before .receiver-from .ensures) ∙ c .before .before .before .before .before .before .before .r .given .1)
 
--- src/receivers.rt:224:31
-enum-known-why : tie.Need-enum-known-why
-enum-known-why c = ?
+enum-told : tie.Need-enum-told
+enum-told c = search needs
 
--- src/receivers.rt:208:1
 same-length-2 : tie.Need-same-length-2
-same-length-2 c = ?
+same-length-2 c = search needs
 
--- src/receivers.rt:208:1
 same-length-3 : tie.Need-same-length-3
-same-length-3 c = ?
+same-length-3 c = search needs
 
--- src/receivers.rt:208:1
 returns-2 : tie.Need-returns-2
-returns-2 c = ?
+returns-2 c = let a = c .before .before .before .before .before .before .before .before .before .before .before .before .before .before .before .before .before .args in
+    done (a .state .now) (a .halves .now) (a .events .now) (c .before .before .before .before .before .before .before .before .before .before .r .given .0 .0) (sym (c .before .before .before .before .before .before .before .before .before .before .before .before .receiver-from .ensures) ∙ c .before .before .before .before .before .before .before .before .before .before .r .given .1) (c .before .before .before .before .before .before .run-all .result) _ _ (omega arith) (c .before .before .before .before .before .before .run-all .ensures) (c .before .before .put-receiver .ensures)
 
--- src/receivers.rt:208:1
 same-length-4 : tie.Need-same-length-4
-same-length-4 c = ?
+same-length-4 c = search needs
 
--- src/receivers.rt:208:1
 returns-3 : tie.Need-returns-3
-returns-3 c = ?
+returns-3 c = let a = c .before .before .before .before .before .before .before .args in
+    refused (a .state .now) (a .halves .now) (a .events .now) _ (sym (c .before .before .receiver-from .ensures) ∙ c .enum-told .given .1)
 
 pub receive-spec : {M : Type 1} → statement M
 receive-spec =
@@ -64,7 +56,7 @@ receive-spec =
     returns
     run-all-requires
     put-receiver-requires
-    enum-known-why
+    enum-told
     same-length-2
     same-length-3
     returns-2

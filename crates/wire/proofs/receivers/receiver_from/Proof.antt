@@ -1,14 +1,16 @@
 -- `receiver_from` meets its contract: eleven bytes, and then what the last five of them say.
 use mathlib.Core.Path.{sym, _∙_}
-use borrow.Author.Tests.{eq-eqb, ne-eqb}
-use Rattle.wire.specs.Receivers.{receiverFrom}
+use borrow.Author.Tests.{eq-eqb}
+use Rattle.ground.specs.Refusals.{judged}
+use Rattle.ground.proofs.Causes.{ladder}
+use Rattle.wire.specs.Receivers.{receiverIn}
 use borrow.Author.Needs.{needs}
 use Rattle.wire.proofs.receivers.receiver_from.Statement.{statement}
 use Rattle.wire.proofs.receivers.receiver_from.Tie as tie
 
 returns : tie.Need-returns
-unfolding receiverFrom
-returns c = simp (ne-eqb _ _ (c .if1 .taken))
+unfolding receiverIn
+returns c = search ladder
 
 shared-slice-read-number-of : tie.Need-shared-slice-read-number-of
 shared-slice-read-number-of c = search needs
@@ -46,22 +48,25 @@ given-from-requires c κs = search needs
 enum-known-g : tie.Need-enum-known-g
 enum-known-g c = search needs
 
-shared-slice-read-t23 : tie.Need-shared-slice-read-t23
-shared-slice-read-t23 c = search needs
-
 shared-slice-read-t25 : tie.Need-shared-slice-read-t25
 shared-slice-read-t25 c = search needs
 
-enum-told : tie.Need-enum-told
-enum-told c = search needs
+shared-slice-read-t27 : tie.Need-shared-slice-read-t27
+shared-slice-read-t27 c = search needs
+
+taken-requires : tie.Need-taken-requires
+taken-requires c κs = search needs
+
+enum-known-why : tie.Need-enum-known-why
+enum-known-why c = search needs
 
 returns-2 : tie.Need-returns-2
-unfolding receiverFrom
-returns-2 c = simp (eq-eqb _ _ (c .before .before .before .before .before .before .before .before .before .before .before .before .before .before .before .before .if1 .left), c .before .before .before .before .before .before .before .before .before .before .before .number-of .ensures, sym (c .before .before .before .before .before .given-from .ensures) ∙ c .before .before .before .g .given .1)
+unfolding receiverIn judged
+returns-2 c = simp (eq-eqb _ _ (c .before .before .before .before .before .before .before .before .before .before .before .before .before .before .before .before .before .if1 .left), sym (c .before .before .before .before .before .before .given-from .ensures) ∙ c .before .before .before .before .g .given .1, sym (c .before .before .before .before .before .before .before .before .before .before .before .before .number-of .ensures)) (c .taken .ensures)
 
 returns-3 : tie.Need-returns-3
-unfolding receiverFrom
-returns-3 c = simp (eq-eqb _ _ (c .before .before .before .before .before .before .before .before .before .before .before .before .before .if1 .left), sym (c .before .before .given-from .ensures) ∙ c .enum-told .given .1)
+unfolding receiverIn judged
+returns-3 c = simp (eq-eqb _ _ (c .before .before .before .before .before .before .before .before .before .before .before .before .before .before .if1 .left), sym (c .before .before .before .given-from .ensures) ∙ c .before .why .given .1)
 
 pub receiver-from-spec : {M : Type 1} → statement M
 receiver-from-spec =
@@ -80,8 +85,9 @@ receiver-from-spec =
     shared-slice-read-given-from-5
     given-from-requires
     enum-known-g
-    shared-slice-read-t23
     shared-slice-read-t25
-    enum-told
+    shared-slice-read-t27
+    taken-requires
+    enum-known-why
     returns-2
     returns-3)
