@@ -43,6 +43,7 @@ pub fn advance(stations: &mut [Station], draws: &[u8]) -> Result<Line, Refusal> 
 mod tests {
     use super::*;
     use crate::burst::write_burst;
+    use crate::drawn::Drawn;
     use crate::message::{Function, Message};
     use crate::receiver::{Event, Receiver};
 
@@ -119,36 +120,32 @@ mod tests {
         assert_eq!(advance(&mut before.clone(), &[8, 8, 99]), Ok(Line { half: 0, done: 0 }));
     }
 
+    fn some_load(drawn: &mut Drawn) -> (Message, u8) {
+        let house = drawn.below(4) as u8;
+        let unit = drawn.below(4) as u8;
+        let message = match drawn.below(3) {
+            0 => Message::Address { house, unit },
+            1 => Message::Function { house, function: Function::ALL[drawn.below(12) as usize] },
+            _ => Message::Extended { house, unit, data: drawn.below(256) as u8, command: 0x31 },
+        };
+        (message, 8 + drawn.below(3) as u8)
+    }
+
     /// Loaded benches go out whole: within 134 half-cycles for each station, every message is
     /// heard by a fresh receiver, the greatest of those that start together first, and DONE comes
     /// at the half-cycle of REPEAT.
     #[test]
     fn every_message_is_heard_within_134_for_each_station() {
-        let mut number = 7u64;
-        let mut random = move |below: u64| {
-            number = number.wrapping_mul(6364136223846793005).wrapping_add(1442695040888963407);
-            (number >> 33) % below
-        };
+        let mut drawn = Drawn(7);
         for _ in 0..400 {
-            let n = 1 + random(16) as usize;
-            let loads: Vec<(Message, u8)> = (0..n)
-                .map(|_| {
-                    let house = random(4) as u8;
-                    let unit = random(4) as u8;
-                    let message = match random(3) {
-                        0 => Message::Address { house, unit },
-                        1 => Message::Function { house, function: Function::ALL[random(12) as usize] },
-                        _ => Message::Extended { house, unit, data: random(256) as u8, command: 0x31 },
-                    };
-                    (message, 8 + random(3) as u8)
-                })
-                .collect();
+            let n = 1 + drawn.below(16) as usize;
+            let loads: Vec<(Message, u8)> = (0..n).map(|_| some_load(&mut drawn)).collect();
             let mut stations = loaded(&loads);
             let mut receiver = Receiver::FRESH;
             let mut given = None;
             let mut left = n;
             for _ in 0..134 * n {
-                let draws: Vec<u8> = (0..n).map(|_| 8 + random(3) as u8).collect();
+                let draws: Vec<u8> = (0..n).map(|_| 8 + drawn.below(3) as u8).collect();
                 let line = advance(&mut stations, &draws).unwrap();
                 match receiver.step(line.half).unwrap() {
                     Event::Message(message) => given = Some(message),

@@ -3,7 +3,7 @@
 //! A message is five numbers: kind (1 address, 2 function, 3 extended), house, unit or function
 //! code, data, command. A receiver is 11 bytes: past, at, bits in four bytes, highest first, and
 //! the message given before, five zeros where there is none. An event is six bytes: its code and
-//! the message of a MESSAGE, else five zeros.
+//! the message of a MESSAGE, else five zeros. An answer in lent memory is eight bytes, lowest first.
 //!
 //! Each gives the count, or the number by which it refuses; a refusal changes nothing that was
 //! lent. They are not inlined, so that a caller pays for a call as it does with the library.
@@ -17,10 +17,11 @@ use crate::routes;
 use crate::station::{judge_draw, Station};
 use crate::table::{self, Table};
 
-/// Bytes of a message, a receiver and an event.
+/// Bytes of a message, a receiver, an event and an answer.
 pub const MESSAGE: usize = 5;
 pub const RECEIVER: usize = 11;
 pub const EVENT: usize = 6;
+pub const ANSWER: usize = 8;
 
 /// Codes of the events that carry no number of the paper.
 const NOTHING: u8 = 0;
@@ -31,20 +32,23 @@ const BROKEN_UNSUPPORTED: u8 = 11;
 
 const NO_MESSAGE: [u8; MESSAGE] = [0; MESSAGE];
 
-/// The message of five numbers, its house and unit not judged. None for a kind that is none of the
-/// three and for a function code that is none of the twelve.
-fn unjudged([kind, house, third, data, command]: [u8; MESSAGE]) -> Option<Message> {
-    match kind {
-        1 => Some(Message::Address { house, unit: third }),
-        2 => Function::from_code(third).map(|function| Message::Function { house, function }),
-        3 => Some(Message::Extended { house, unit: third, data, command }),
-        _ => None,
+/// An answer as one number: the number given back in bits 0 to 7, the count above them.
+pub fn packed(answer: Result<usize, Refusal>) -> u64 {
+    match answer {
+        Ok(count) => (count as u64) << 8,
+        Err(refusal) => refusal as u64,
     }
 }
 
-/// The message of five numbers, or 2.
-pub fn message(numbers: [u8; MESSAGE]) -> Result<Message, Refusal> {
-    let message = unjudged(numbers).ok_or(Refusal::Message)?;
+/// The message of five numbers. 2 for a kind that is none of the three, a function code that is none
+/// of the twelve, and a house or unit above 15.
+pub fn message([kind, house, third, data, command]: [u8; MESSAGE]) -> Result<Message, Refusal> {
+    let message = match kind {
+        1 => Message::Address { house, unit: third },
+        2 => Message::Function { house, function: Function::from_code(third).ok_or(Refusal::Message)? },
+        3 => Message::Extended { house, unit: third, data, command },
+        _ => return Err(Refusal::Message),
+    };
     message.judge()?;
     Ok(message)
 }
@@ -57,8 +61,8 @@ fn message_bytes(message: Message) -> [u8; MESSAGE] {
     }
 }
 
-/// The receiver of 11 bytes. 6 for another length, and where the message given is neither five
-/// zeros nor a message as `message_bytes` writes it; its house and unit are left to the step.
+/// The receiver of 11 bytes. 6 for another length, where the message given is neither five zeros nor
+/// a message as `message_bytes` writes it, and for a receiver that `judge` refuses.
 fn receiver(state: &[u8]) -> Result<Receiver, Refusal> {
     let &[past, at, b3, b2, b1, b0, ref given @ ..] = state else {
         return Err(Refusal::State);
@@ -67,10 +71,12 @@ fn receiver(state: &[u8]) -> Result<Receiver, Refusal> {
     let given = if given == NO_MESSAGE {
         None
     } else {
-        let message = unjudged(given).filter(|message| message_bytes(*message) == given);
+        let message = message(given).ok().filter(|message| message_bytes(*message) == given);
         Some(message.ok_or(Refusal::State)?)
     };
-    Ok(Receiver { past, at, bits: u32::from_be_bytes([b3, b2, b1, b0]), given })
+    let receiver = Receiver { past, at, bits: u32::from_be_bytes([b3, b2, b1, b0]), given };
+    receiver.judge()?;
+    Ok(receiver)
 }
 
 fn receiver_bytes(receiver: &Receiver) -> [u8; RECEIVER] {
@@ -111,18 +117,22 @@ pub fn receiver_fresh(state: &mut [u8]) -> Result<usize, Refusal> {
     Ok(0)
 }
 
-/// One step for each half-cycle, its event at 6 times its place in `events`; count: half-cycles.
-/// A step that is refused is an event 5 or 6. 6, 9.
+/// One step for each half-cycle, its event at 6 times its place in `events`; count: half-cycles. A
+/// half-cycle that is not 0 or 1 is an event 5. 6, 9.
 #[inline(never)]
 pub fn receive(state: &mut [u8], halves: &[u8], events: &mut [u8]) -> Result<usize, Refusal> {
     let mut receiver = receiver(state)?;
-    let events = events.get_mut(..EVENT * halves.len()).ok_or(Refusal::Short)?;
-    let (events, _) = events.as_chunks_mut::<EVENT>();
+    let events = front::<EVENT>(events, halves.len())?;
     for (event, &half) in events.iter_mut().zip(halves) {
-        write_event(receiver.step(half), event);
+        write_event(receiver.hear(half), event);
     }
     state.copy_from_slice(&receiver_bytes(&receiver));
     Ok(halves.len())
+}
+
+/// The first n entries of N bytes each, or 9.
+fn front<const N: usize>(bytes: &mut [u8], n: usize) -> Result<&mut [[u8; N]], Refusal> {
+    bytes.as_chunks_mut().0.get_mut(..n).ok_or(Refusal::Short)
 }
 
 /// Writes the four bytes of a radio command (0 on, 1 off, 2 bright, 3 dim) at the front of `out`;
@@ -184,18 +194,23 @@ pub fn bench_run(
         return Err(Refusal::State);
     }
     loads.iter().copied().try_for_each(judge_draw)?;
-    if draws.len() != n * lines.len() || marks.len() < 2 * lines.len() {
+    if draws.len() != n * lines.len() {
         return Err(Refusal::Short);
     }
+    let marks = front::<2>(marks, lines.len())?;
 
     let mut stations = [Station::EMPTY; bench::LARGEST];
     let stations = &mut stations[..n];
     for ((station, &numbers), &draw) in stations.iter_mut().zip(messages).zip(loads) {
         station.load(message(numbers)?, draw)?;
     }
+    Ok(calls(stations, draws, lines, marks))
+}
+
+/// A call of the bench for each byte of `lines`; how many were not refused.
+fn calls(stations: &mut [Station], draws: &[u8], lines: &mut [u8], marks: &mut [[u8; 2]]) -> usize {
     let mut count = 0;
-    let (marks, _) = marks.as_chunks_mut::<2>();
-    for ((line, mark), draws) in lines.iter_mut().zip(marks).zip(draws.chunks_exact(n)) {
+    for ((line, mark), draws) in lines.iter_mut().zip(marks).zip(draws.chunks_exact(stations.len())) {
         match bench::advance(stations, draws) {
             Ok(answer) => {
                 *line = answer.half;
@@ -208,7 +223,7 @@ pub fn bench_run(
             }
         }
     }
-    Ok(count)
+    count
 }
 
 /// Applies both messages of a radio code or none; count: records whose level differs before and
@@ -218,85 +233,30 @@ pub fn radio_route(table: &mut [u8], code: &[u8]) -> Result<usize, Refusal> {
     routes::radio(table, code)
 }
 
-/// One step of a receiver, and its message, if it gives one, applied; `out` gets the event; count:
-/// records whose level differs. 1, 3, 5, 6, 9; and 4, with receiver and `out` written all the same.
+/// One step of a receiver for each half-cycle, as `receive` does it, and each message that it gives
+/// applied before the next; beside each event, what the table answered to its message, 0 where there
+/// was none. Count: records whose level differs before and after the whole. 1, 3, 6, 9.
 #[inline(never)]
-pub fn mains_route(state: &mut [u8], half: u8, table: &mut [u8], out: &mut [u8]) -> Result<usize, Refusal> {
+pub fn mains_route(
+    state: &mut [u8],
+    halves: &[u8],
+    table: &mut [u8],
+    events: &mut [u8],
+    answers: &mut [u8],
+) -> Result<usize, Refusal> {
     let mut table = Table::valid(table)?;
-    if half > 1 {
-        return Err(Refusal::Half);
-    }
     let mut receiver = receiver(state)?;
-    receiver.judge()?;
-    let out = out.first_chunk_mut::<EVENT>().ok_or(Refusal::Short)?;
-    let (event, applied) = routes::hear(&mut receiver, half, &mut table);
+    let events = front::<EVENT>(events, halves.len())?;
+    let answers = front::<ANSWER>(answers, halves.len())?;
+    let before = table.all_levels();
+    for ((event, answer), &half) in events.iter_mut().zip(answers).zip(halves) {
+        let (heard, applied) = routes::mains(&mut receiver, half, &mut table);
+        write_event(heard, event);
+        *answer = packed(applied).to_le_bytes();
+    }
     state.copy_from_slice(&receiver_bytes(&receiver));
-    write_event(Ok(event), out);
-    applied
+    Ok(table.all_levels_changed(&before))
 }
 
 #[cfg(test)]
-mod tests {
-    use super::*;
-
-    #[test]
-    fn receivers_read_back() {
-        let given = [
-            None,
-            Some(Message::Address { house: 99, unit: 3 }),
-            Some(Message::Function { house: 1, function: Function::AllUnitsOff }),
-            Some(Message::Extended { house: 1, unit: 2, data: 3, command: 4 }),
-        ];
-        for given in given {
-            let value = Receiver { past: 200, at: 100, bits: 0x89AB_CDEF, given };
-            assert_eq!(receiver(&receiver_bytes(&value)), Ok(value));
-        }
-        assert_eq!(receiver_bytes(&Receiver::FRESH), [63, 0, 0, 0, 0, 0, 0, 0, 0, 0, 0]);
-    }
-
-    #[test]
-    fn what_is_no_receiver() {
-        let with = |given: [u8; MESSAGE]| {
-            let mut state = receiver_bytes(&Receiver::FRESH);
-            state[6..].copy_from_slice(&given);
-            receiver(&state)
-        };
-        for given in [[0, 1, 0, 0, 0], [4, 0, 0, 0, 0], [1, 0, 0, 1, 0], [2, 0, 2, 0, 1], [2, 0, 7, 0, 0]] {
-            assert_eq!(with(given), Err(Refusal::State), "{given:?}");
-        }
-        assert!(with([3, 0, 0, 0, 0]).is_ok());
-        assert_eq!(receiver(&[0; 10]), Err(Refusal::State));
-        assert_eq!(receiver(&[0; 12]), Err(Refusal::State));
-        assert_eq!(receiver(&[]), Err(Refusal::State));
-    }
-
-    #[test]
-    fn a_refused_step_is_an_event() {
-        let mut state = receiver_bytes(&Receiver { past: 64, ..Receiver::FRESH });
-        let before = state;
-        let mut events = [9; 20];
-        assert_eq!(receive(&mut state, &[0, 2, 1], &mut events), Ok(3));
-        assert_eq!(state, before);
-        assert_eq!(events, [6, 0, 0, 0, 0, 0, 5, 0, 0, 0, 0, 0, 6, 0, 0, 0, 0, 0, 9, 9]);
-    }
-
-    #[test]
-    fn mains_route_refuses_in_order() {
-        let mut table = vec![0; table::LEN];
-        let mut out = [7; EVENT];
-        let short = &mut [][..];
-        assert_eq!(mains_route(&mut [], 2, &mut [], short), Err(Refusal::Table));
-        table[0] = 3;
-        assert_eq!(mains_route(&mut [], 2, &mut table, short), Err(Refusal::Record));
-        table[0] = 0;
-        assert_eq!(mains_route(&mut [], 2, &mut table, short), Err(Refusal::Half));
-        assert_eq!(mains_route(&mut [], 1, &mut table, short), Err(Refusal::State));
-        let mut state = receiver_bytes(&Receiver { at: 63, ..Receiver::FRESH });
-        assert_eq!(mains_route(&mut state, 1, &mut table, short), Err(Refusal::State));
-        assert_eq!(mains_route(&mut state, 1, &mut table, &mut out), Err(Refusal::State));
-        let mut state = receiver_bytes(&Receiver::FRESH);
-        assert_eq!(mains_route(&mut state, 1, &mut table, short), Err(Refusal::Short));
-        assert_eq!(mains_route(&mut state, 1, &mut table, &mut out), Ok(0));
-        assert_eq!(out, [0; EVENT]);
-    }
-}
+mod tests;

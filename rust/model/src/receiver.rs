@@ -76,17 +76,25 @@ impl Receiver {
 
     /// One half-cycle. A refusal (5, 6) leaves the receiver as it was.
     pub fn step(&mut self, half: u8) -> Result<Event, Refusal> {
+        // 5 comes before 6.
+        if half <= 1 {
+            self.judge()?;
+        }
+        self.hear(half)
+    }
+
+    /// A step of a receiver that `judge` lets pass: 5, or the event. Such a receiver stays one that
+    /// `judge` lets pass.
+    #[inline]
+    pub fn hear(&mut self, half: u8) -> Result<Event, Refusal> {
         if half > 1 {
             return Err(Refusal::Half);
         }
-        self.judge()?;
         Ok(self.advance(half))
     }
 
-    /// A step of a receiver that `judge` lets pass, with a half-cycle 0 or 1. Such a receiver
-    /// stays one that `judge` lets pass.
     #[inline]
-    pub fn advance(&mut self, half: u8) -> Event {
+    fn advance(&mut self, half: u8) -> Event {
         let before = self.past;
         self.past = (before << 1 | half) & PAST_MASK;
         if self.at == 0 {
@@ -170,6 +178,7 @@ impl Receiver {
 mod tests {
     use super::*;
     use crate::burst::{frame_len, write_burst, write_frame, LONGEST, START};
+    use crate::drawn::Drawn;
     use crate::message::{Function, Word};
 
     const A1: Message = Message::Address { house: 0, unit: 0 };
@@ -200,6 +209,31 @@ mod tests {
         heard
     }
 
+    /// The event of the pairs of a frame at the front of a line, and how many half-cycles they are.
+    /// None where the line ends before it.
+    fn frame_in_list(line: &[u8]) -> Option<(usize, Event)> {
+        let mut bits: Vec<u8> = Vec::new();
+        let mut pairs = 9;
+        while bits.len() < pairs {
+            let place = 2 * bits.len();
+            let pair = line.get(place..place + 2)?;
+            if pair[0] == pair[1] {
+                return Some((place + 2, Event::BrokenPair));
+            }
+            bits.push(pair[0]);
+            if bits.len() == 9 && bits[4..] == [0, 1, 1, 1, 1] {
+                pairs = 29;
+            }
+        }
+        let number = bits.iter().fold(0, |n, &bit| n * 2 + u32::from(bit));
+        let event = match (pairs, Message::of_nine(number)) {
+            (29, _) => Event::Message(Message::of_twenty_nine(number)),
+            (_, Nine::Whole(message)) => Event::Message(message),
+            _ => Event::BrokenUnsupported,
+        };
+        Some((2 * pairs, event))
+    }
+
     /// The receiver once more, over the whole list of half-cycles, by looking back and ahead in
     /// it: no state is kept between half-cycles but the place.
     fn heard_in_list(line: &[u8]) -> Vec<(usize, Event)> {
@@ -211,31 +245,9 @@ mod tests {
                 continue;
             }
             let mut last = None;
-            loop {
-                // i half-cycles have come, and the pairs of a frame are next.
-                let mut bits: Vec<u8> = Vec::new();
-                let mut pairs = 9;
-                let event = loop {
-                    let Some(pair) = line.get(i..i + 2) else {
-                        return heard;
-                    };
-                    i += 2;
-                    if pair[0] == pair[1] {
-                        break Event::BrokenPair;
-                    }
-                    bits.push(pair[0]);
-                    if bits.len() == 9 && bits[4..] == [0, 1, 1, 1, 1] {
-                        pairs = 29;
-                    }
-                    if bits.len() == pairs {
-                        let number = bits.iter().fold(0, |n, &bit| n * 2 + u32::from(bit));
-                        break match (pairs, Message::of_nine(number)) {
-                            (29, _) => Event::Message(Message::of_twenty_nine(number)),
-                            (_, Nine::Whole(message)) => Event::Message(message),
-                            _ => Event::BrokenUnsupported,
-                        };
-                    }
-                };
+            // i half-cycles have come, and the pairs of a frame are next.
+            while let Some((taken, event)) = frame_in_list(&line[i..]) {
+                i += taken;
                 if last == Some(event) {
                     heard.push((i, Event::Repeat));
                     break;
@@ -351,26 +363,22 @@ mod tests {
 
     #[test]
     fn agrees_with_the_receiver_over_the_list() {
-        let mut number = 1u64;
-        let mut random = move |below: u64| {
-            number = number.wrapping_mul(6364136223846793005).wrapping_add(1442695040888963407);
-            (number >> 33) % below
-        };
+        let mut drawn = Drawn(1);
         for _ in 0..20_000 {
             let mut line = Vec::new();
-            for _ in 0..random(6) {
-                line.extend(vec![0; random(6) as usize]);
-                let len = if random(2) == 0 { 9 } else { 29 };
-                let mut bits = random(1 << len) as u32;
+            for _ in 0..drawn.below(6) {
+                line.extend(vec![0; drawn.below(6) as usize]);
+                let len = if drawn.below(2) == 0 { 9 } else { 29 };
+                let mut bits = drawn.below(1 << len) as u32;
                 if len == 29 {
                     bits = bits & !(31 << 20) | EXTENDED_MARK << 20;
                 }
                 let frame = frame(Word { bits, len });
-                for _ in 0..random(4) {
+                for _ in 0..drawn.below(4) {
                     line.extend(&frame);
                 }
-                for _ in 0..random(3) {
-                    let place = random(line.len() as u64 + 1) as usize;
+                for _ in 0..drawn.below(3) {
+                    let place = drawn.below(line.len() as u64 + 1) as usize;
                     if place < line.len() {
                         line[place] ^= 1;
                     }

@@ -19,25 +19,15 @@ pub fn radio(table: &mut [u8], code: &[u8]) -> Result<usize, Refusal> {
     Ok(table.levels_changed(house, &before))
 }
 
-/// One half-cycle: refusals 1, 3, 5 and 6, which change nothing; else what `hear` gives.
-pub fn mains(receiver: &mut Receiver, half: u8, table: &mut [u8]) -> Result<Heard, Refusal> {
-    let mut table = Table::valid(table)?;
-    if half > 1 {
-        return Err(Refusal::Half);
-    }
-    receiver.judge()?;
-    Ok(hear(receiver, half, &mut table))
-}
+/// What the receiver made of a half-cycle, 5 or its event, and what the table made of the message
+/// given: the count of levels or 4, and count 0 where none was given.
+pub type Heard = (Result<Event, Refusal>, Result<usize, Refusal>);
 
-/// The event of a half-cycle, and what applying its message gave: the count of levels, 0 where the
-/// event has no message, or 4 where the table does not carry it.
-pub type Heard = (Event, Result<usize, Refusal>);
-
-/// One half-cycle 0 or 1 of a receiver and a table that are judged well.
-pub fn hear(receiver: &mut Receiver, half: u8, table: &mut Table) -> Heard {
-    let event = receiver.advance(half);
+/// One half-cycle of the mains, for a receiver and a table that are judged well.
+pub fn mains(receiver: &mut Receiver, half: u8, table: &mut Table) -> Heard {
+    let event = receiver.hear(half);
     let applied = match event {
-        Event::Message(message) => table.apply(message),
+        Ok(Event::Message(message)) => table.apply(message),
         _ => Ok(0),
     };
     (event, applied)
@@ -69,7 +59,7 @@ mod tests {
             let mut burst = [0; 124];
             let len = write_burst(message, &mut burst).unwrap();
             for half in [0, 0, 0].iter().chain(&burst[..len]) {
-                count += mains(receiver, *half, table).unwrap().1.unwrap();
+                count += mains(receiver, *half, &mut Table::valid(table).unwrap()).1.unwrap();
             }
         }
         count
@@ -118,11 +108,11 @@ mod tests {
         let line: Vec<u8> = [0, 0, 0].into_iter().chain(burst).collect();
         for (i, &half) in line.iter().enumerate() {
             let told = match i {
-                64 => (Event::Message(message), Err(Refusal::NotCarried)),
-                126 => (Event::Repeat, Ok(0)),
-                _ => (Event::Nothing, Ok(0)),
+                64 => (Ok(Event::Message(message)), Err(Refusal::NotCarried)),
+                126 => (Ok(Event::Repeat), Ok(0)),
+                _ => (Ok(Event::Nothing), Ok(0)),
             };
-            assert_eq!(mains(&mut receiver, half, &mut table), Ok(told), "{i}");
+            assert_eq!(mains(&mut receiver, half, &mut Table::valid(&mut table).unwrap()), told, "{i}");
         }
         assert_eq!(table, before);
     }
@@ -134,18 +124,12 @@ mod tests {
         let copy = bad.clone();
         assert_eq!(radio(&mut bad[..9], &[]), Err(Refusal::Table));
         assert_eq!(radio(&mut bad, &[]), Err(Refusal::Record));
-        let mut receiver = Receiver { past: 64, ..Receiver::FRESH };
-        assert_eq!(mains(&mut receiver, 2, &mut bad[..9]), Err(Refusal::Table));
-        assert_eq!(mains(&mut receiver, 2, &mut bad), Err(Refusal::Record));
         assert_eq!(bad, copy);
         let mut good = room();
         let copy = good.clone();
         assert_eq!(radio(&mut good, &[1, 2]), Err(Refusal::RfLength));
         assert_eq!(radio(&mut good, &[1, 2, 3, 4]), Err(Refusal::RfComplement));
         assert_eq!(radio(&mut good, &[0x60, 0x9F, 0x01, 0xFE]), Err(Refusal::RfCode));
-        assert_eq!(mains(&mut receiver, 2, &mut good), Err(Refusal::Half));
-        assert_eq!(mains(&mut receiver, 1, &mut good), Err(Refusal::State));
-        assert_eq!(receiver, Receiver { past: 64, ..Receiver::FRESH });
         assert_eq!(good, copy);
     }
 }

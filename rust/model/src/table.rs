@@ -152,7 +152,17 @@ impl<'a> Table<'a> {
 
     /// How many levels of a house are other than those.
     pub fn levels_changed(&self, house: u8, before: &[u8; UNITS]) -> usize {
-        self.levels(house).iter().zip(before).filter(|(now, then)| now != then).count()
+        differing(&self.levels(house), before)
+    }
+
+    /// The levels of all houses.
+    pub fn all_levels(&self) -> [u8; RECORDS] {
+        std::array::from_fn(|place| self.records[place][LEVEL])
+    }
+
+    /// How many levels of all houses are other than those.
+    pub fn all_levels_changed(&self, before: &[u8; RECORDS]) -> usize {
+        differing(&self.all_levels(), before)
     }
 
     /// What a message does; nothing where it is not carried.
@@ -182,6 +192,11 @@ impl<'a> Table<'a> {
             }
         }
     }
+}
+
+/// At how many places two lists of one length differ.
+fn differing(now: &[u8], then: &[u8]) -> usize {
+    now.iter().zip(then).filter(|(now, then)| now != then).count()
 }
 
 fn record_ok(record: &Record) -> bool {
@@ -287,24 +302,20 @@ fn extended_acts(records: &mut [Record], unit: usize, extended: Extended) {
         Extended::UnitLeaves(groups) => leave(&mut records[unit], groups),
         Extended::HouseLeaves(groups) => records.iter_mut().for_each(|record| leave(record, groups)),
         Extended::Recall { group } => {
-            for record in records.iter_mut().filter(|record| is_member(record, group)) {
-                record[LEVEL] = record[PRESETS + group];
-            }
+            members(records, group).for_each(|record| record[LEVEL] = record[PRESETS + group])
         }
-        Extended::GroupOff { group } => {
-            for record in records.iter_mut().filter(|record| is_member(record, group)) {
-                record[LEVEL] = 0;
-            }
-        }
+        Extended::GroupOff { group } => members(records, group).for_each(|record| record[LEVEL] = 0),
         Extended::Step { group, up } => {
-            for record in records.iter_mut().filter(|record| is_member(record, group)) {
-                if record[KIND] == LAMP {
-                    record[LEVEL] = step(record[LEVEL], up);
-                }
+            for lamp in members(records, group).filter(|record| record[KIND] == LAMP) {
+                lamp[LEVEL] = step(lamp[LEVEL], up);
             }
         }
         Extended::Heard => {}
     }
+}
+
+fn members(records: &mut [Record], group: usize) -> impl Iterator<Item = &mut Record> {
+    records.iter_mut().filter(move |record| is_member(record, group))
 }
 
 /// A present unit joins a group.
