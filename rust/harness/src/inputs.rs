@@ -123,6 +123,47 @@ pub fn line(rng: &mut Rng, len: usize, bad: bool, line: &mut Vec<u8>) {
     line.truncate(len);
 }
 
+/// Bursts of a few messages for one house, each after clear half-cycles: most move levels of many
+/// modules up or down, some are not carried. Where `bad`, half-cycles that are neither 0 nor 1 stand
+/// between the others.
+pub fn presses(rng: &mut Rng, bad: bool, line: &mut Vec<u8>) {
+    line.clear();
+    let house = rng.below(16) as u8;
+    for _ in 0..2 + rng.below(5) {
+        let unit = rng.below(16) as u8;
+        let numbers = match rng.below(4) {
+            0 => [2, house, rng.pick(&[0, 1, 6]), 0, 0],
+            1 => [3, house, unit, rng.byte(), rng.pick(&[0x31, 0x33, 0x34])],
+            2 => [2, house, rng.pick(&[2, 3, 4, 5]), 0, 0],
+            _ => extended(rng, house),
+        };
+        send(rng, numbers, line);
+    }
+    for _ in 0..if bad { rng.below(4) } else { 0 } {
+        line.insert(rng.below(line.len()), 2 + edge(rng) % 254);
+    }
+}
+
+/// "All lights on", or 33 for one in two, to each house in turn.
+pub fn every_house(rng: &mut Rng, line: &mut Vec<u8>) {
+    line.clear();
+    for house in 0..16 {
+        let numbers = if rng.one_in(2) { [2, house, 1, 0, 0] } else { [3, house, 0, 0, 0x33] };
+        send(rng, numbers, line);
+    }
+}
+
+/// The burst of a message at the line's end, after three clear half-cycles or a few more.
+fn send(rng: &mut Rng, numbers: [u8; MESSAGE], line: &mut Vec<u8>) {
+    let word = word_of(numbers);
+    line.extend(std::iter::repeat_n(0, 3 + rng.below(4)));
+    for _ in 0..2 {
+        let frame = line.len();
+        line.resize(frame + frame_len(word), 0);
+        write_frame(word, &mut line[frame..]);
+    }
+}
+
 /// The five bytes of a receiver's message given before: none, a message, or neither.
 fn given(rng: &mut Rng) -> [u8; MESSAGE] {
     let mut given = match rng.below(6) {
@@ -293,9 +334,13 @@ pub fn bench(rng: &mut Rng, n: usize, calls: usize, bad: bool, bench: &mut Bench
     bench.loads.extend((0..n).map(|_| draw(rng)));
     bench.draws.clear();
     bench.draws.extend((0..n * calls).map(|_| draw(rng)));
-    if !bad {
-        return;
+    if bad {
+        spoil(rng, n, bench);
     }
+}
+
+/// Puts bytes at a bound among those of a bench, and changes lengths, now and then.
+fn spoil(rng: &mut Rng, n: usize, bench: &mut Bench) {
     if n > 0 && rng.one_in(12) {
         let place = rng.below(5 * n);
         bench.messages[place] = edge(rng);

@@ -22,7 +22,7 @@ impl Lent {
     }
 
     /// Lends the first `len` bytes, with what stands there.
-    pub fn lend(&mut self, len: usize) {
+    fn lend(&mut self, len: usize) {
         self.len = len;
         let end = self.end();
         self.before[..end].copy_from_slice(&self.rust[..end]);
@@ -40,6 +40,14 @@ impl Lent {
         self.len = bytes.len();
         self.before[GUARD..GUARD + bytes.len()].copy_from_slice(bytes);
         self.set_both();
+    }
+
+    /// Lends these bytes or, where there are none, the first `len` with what stands there.
+    pub fn lend_or_keep(&mut self, bytes: Option<&[u8]>, len: usize) {
+        match bytes {
+            Some(bytes) => self.lend_bytes(bytes),
+            None => self.lend(len),
+        }
     }
 
     /// Puts what is lent into both sides, and notes what stands after it.

@@ -1,6 +1,6 @@
 //! Compares the proved library with the plain Rust model on many inputs, then times both.
 //!
-//!     x10-bench [--seed N] [--size N] [--rounds N] [--row N] [--compare | --measure]
+//!     x10-harness [--seed N] [--size N] [--rounds N] [--row N] [--compare | --measure]
 //!
 //! The seed is taken from the clock where none is given, and printed. A size of 2 has twice the
 //! cases; --rounds says how many rounds are timed, and --row times only one row. --compare and
@@ -14,7 +14,6 @@ mod measure;
 mod reached;
 mod rng;
 mod tally;
-mod x10;
 
 use std::process::ExitCode;
 use std::time::{Instant, SystemTime, UNIX_EPOCH};
@@ -89,7 +88,7 @@ fn main() -> ExitCode {
     let options = match options() {
         Ok(options) => options,
         Err(wrong) => {
-            eprintln!("x10-bench: {wrong}");
+            eprintln!("x10-harness: {wrong}");
             return ExitCode::from(2);
         }
     };

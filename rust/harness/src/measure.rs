@@ -7,10 +7,9 @@
 
 use crate::inputs::{self, TABLE};
 use crate::rng::Rng;
-use crate::x10;
 use std::hint::black_box;
 use std::time::Instant;
-use x10_model::bytes::{self, EVENT, RECEIVER};
+use x10_model::bytes::{self, ANSWER, EVENT, RECEIVER};
 
 /// Rounds that are timed for each row where nothing else is asked for.
 pub const ROUNDS: usize = 401;
@@ -132,7 +131,8 @@ impl Rows {
 
 /// Both sides of a row from one text: `$lib` stands for the library and for the model in turn.
 macro_rules! row {
-    ($rows:expr, $routine:expr, $timed:expr, $units:expr, $lent:expr, $reset:expr, |$s:ident, $lib:ident| $run:expr) => {{
+    ($rows:expr, $routine:expr, $timed:expr, $units:expr, $lent:expr, $reset:expr,
+     |$s:ident, $lib:ident| $run:expr) => {{
         let mut rattle = {
             use x10 as $lib;
             Over { lent: $lent, reset: $reset, run: |$s| $run }
@@ -150,11 +150,14 @@ pub fn all(seed: u64, rounds: usize, only: Option<usize>) -> Vec<Row> {
     let rng = &mut Rng::new(seed);
     let mut rows = Rows { rounds, only, come: 0, rows: Vec::new() };
     bursts(rng, &mut rows);
-    receivers(rng, &mut rows);
+    let line = receivers(rng, &mut rows);
     radio(rng, &mut rows);
     tables(rng, &mut rows);
     benches(rng, &mut rows);
-    routes(rng, &mut rows);
+    let table = full_table(rng);
+    radio_route(rng, &table, &mut rows);
+    mains_route(&table, &sent_line(rng, 250), 1, "256 modules, one half-cycle a call", &mut rows);
+    mains_route(&table, &line, line.len(), "256 modules, slice of bursts, a half-cycle", &mut rows);
     rows.rows
 }
 
@@ -170,7 +173,7 @@ fn bursts(rng: &mut Rng, rows: &mut Rows) {
         let messages = messages(rng, extended);
         row!(rows, "burst", timed, messages.len(), vec![0; len], |_| {}, |buf, lib| {
             for &message in black_box(&messages) {
-                _ = black_box(&lib::burst(message, black_box(buf)));
+                _ = black_box(&lib::burst(message.into(), black_box(buf)));
             }
         });
     }
@@ -195,14 +198,14 @@ fn sent_line(rng: &mut Rng, len: usize) -> Vec<u8> {
     line
 }
 
-fn receivers(rng: &mut Rng, rows: &mut Rows) {
+/// The slice of bursts that was timed.
+fn receivers(rng: &mut Rng, rows: &mut Rows) -> Vec<u8> {
     row!(rows, "receiver_fresh", "a call", 1, fresh(), |_| {}, |state, lib| {
         _ = black_box(&lib::receiver_fresh(black_box(state)));
     });
-    let lines = [
-        (sent_line(rng, 10_000), "slice of bursts, a half-cycle"),
-        (vec![0; 10_000], "slice of clear line, a half-cycle"),
-    ];
+    let sent = sent_line(rng, 10_000);
+    let clear = vec![0; 10_000];
+    let lines = [(&sent, "slice of bursts, a half-cycle"), (&clear, "slice of clear line, a half-cycle")];
     for (line, timed) in lines {
         let events = vec![0; EVENT * line.len()];
         row!(
@@ -213,14 +216,11 @@ fn receivers(rng: &mut Rng, rows: &mut Rows) {
             (fresh(), events.clone()),
             |lent| lent.0 = fresh(),
             |lent, lib| {
-                _ = black_box(&lib::receive(
-                    black_box(&mut lent.0),
-                    black_box(&line),
-                    black_box(&mut lent.1),
-                ));
+                _ = black_box(&lib::receive(black_box(&mut lent.0), black_box(line), black_box(&mut lent.1)));
             }
         );
     }
+    sent
 }
 
 /// The 544 commands in some order.
@@ -281,7 +281,7 @@ fn tables(rng: &mut Rng, rows: &mut Rows) {
         |table| table.copy_from_slice(&start),
         |table, lib| {
             for &message in black_box(&messages) {
-                _ = black_box(&lib::apply(black_box(table), message));
+                _ = black_box(&lib::apply(black_box(table), message.into()));
             }
         }
     );
@@ -310,37 +310,45 @@ fn benches(rng: &mut Rng, rows: &mut Rows) {
     );
 }
 
-fn routes(rng: &mut Rng, rows: &mut Rows) {
-    let start = full_table(rng);
+fn radio_route(rng: &mut Rng, start: &[u8], rows: &mut Rows) {
     let codes = codes(rng);
     row!(
         rows,
         "radio_route",
         "256 modules, the 544 codes, a call",
         codes.len(),
-        start.clone(),
-        |table| table.copy_from_slice(&start),
+        start.to_vec(),
+        |table| table.copy_from_slice(start),
         |table, lib| {
             for code in black_box(&codes) {
                 _ = black_box(&lib::radio_route(black_box(table), code));
             }
         }
     );
-    let line = sent_line(rng, 250);
+}
+
+/// A line handed over in slices of that many half-cycles.
+fn mains_route(start: &[u8], line: &[u8], slice: usize, timed: &'static str, rows: &mut Rows) {
     row!(
         rows,
         "mains_route",
-        "256 modules, bursts, a half-cycle",
+        timed,
         line.len(),
-        (fresh(), start.clone(), [0; EVENT]),
+        (fresh(), start.to_vec(), vec![0; EVENT * slice], vec![0; ANSWER * slice]),
         |lent| {
             lent.0 = fresh();
-            lent.1.copy_from_slice(&start);
+            lent.1.copy_from_slice(start);
         },
         |lent, lib| {
-            for &half in black_box(&line) {
-                let (state, table, out) = (&mut lent.0, &mut lent.1, &mut lent.2);
-                _ = black_box(&lib::mains_route(black_box(state), half, black_box(table), black_box(out)));
+            let (state, table, events, answers) = lent;
+            for halves in black_box(line).chunks(slice) {
+                _ = black_box(&lib::mains_route(
+                    black_box(state),
+                    halves,
+                    black_box(table),
+                    black_box(events),
+                    black_box(answers),
+                ));
             }
         }
     );

@@ -2,6 +2,7 @@
 //! function gives; what the model gave back decides where the input alone does not.
 
 use x10_model::bytes::{MESSAGE, RECEIVER};
+use x10_model::message::Refusal;
 
 /// A slice's length against the one that is asked for.
 pub const LENGTHS: [&str; 5] = ["empty", "one short", "exact", "one over", "other length"];
@@ -42,8 +43,26 @@ pub fn count(count: usize) -> &'static str {
     }
 }
 
+/// Slices by their number of half-cycles.
+pub const SLICES: [&str; 4] = ["no half-cycle", "1 half-cycle", "2 half-cycles", "more half-cycles"];
+
+pub fn slice(n: usize) -> &'static str {
+    SLICES[n.min(3)]
+}
+
+/// Lines by where the receiver stood before them.
+pub const LINES: [&str; 3] = ["line from the hunt", "line after a message", "line from mid-frame"];
+
+pub fn line(at: u8) -> &'static str {
+    match at {
+        0 => "line from the hunt",
+        1..=4 => "line after a message",
+        _ => "line from mid-frame",
+    }
+}
+
 /// What a receiver made of one half-cycle of 0 or 1.
-pub const TURNS: [&str; 22] = [
+pub const TURNS: [&str; 18] = [
     "hunting",
     "start found",
     "awaited comes",
@@ -62,17 +81,12 @@ pub const TURNS: [&str; 22] = [
     "MESSAGE of 62 after another",
     "REPEAT of 22",
     "REPEAT of 62",
-    "refused for past alone",
-    "refused for at alone",
-    "refused for its pairs alone",
-    "refused for house or unit alone",
 ];
 
-/// None for a receiver that is refused for more than one cause.
-pub fn turn(before: &[u8], code: u8, after: &[u8]) -> Option<&'static str> {
+pub fn turn(before: &[u8], code: u8, after: &[u8]) -> &'static str {
     let (at, next) = (before[1], after[1]);
     let given = before[6..RECEIVER] != [0; MESSAGE];
-    Some(match (code, at) {
+    match (code, at) {
         (0, 0) if next == 0 => "hunting",
         (0, 0) => "start found",
         (0, 1..=4) if next == at + 1 => "awaited comes",
@@ -89,23 +103,148 @@ pub fn turn(before: &[u8], code: u8, after: &[u8]) -> Option<&'static str> {
         (2, _) => "REPEAT of 62",
         (10, ..=22) => "equal pair in the first nine",
         (10, _) => "equal pair after the ninth",
-        (11, _) if given => "unsupported after a message",
-        (11, _) => "unsupported",
-        _ => return refusal(before),
-    })
+        _ if given => "unsupported after a message",
+        _ => "unsupported",
+    }
 }
 
-fn refusal(state: &[u8]) -> Option<&'static str> {
-    let (past, at) = (state[0], state[1]);
-    let bits = u32::from_be_bytes([state[2], state[3], state[4], state[5]]);
-    let standard = (23..=62).contains(&at) && bits >> ((at - 23) / 2) & 31 != 15;
-    let above_15 = state[7] > 15 || state[6] != 2 && state[8] > 15;
-    match (past > 63, at > 62, standard, above_15) {
-        (true, false, false, false) => Some("refused for past alone"),
-        (false, true, false, false) => Some("refused for at alone"),
-        (false, false, true, false) => Some("refused for its pairs alone"),
-        (false, false, false, true) => Some("refused for house or unit alone"),
-        _ => None,
+/// Why bytes are no receiver, or one in no state that there is.
+pub const IMPOSSIBLE: [&str; 8] = [
+    "not eleven bytes",
+    "kind of no message alone",
+    "code of no function alone",
+    "data beside a short message alone",
+    "past alone",
+    "place alone",
+    "pairs alone",
+    "house or unit alone",
+];
+
+/// None where there is more than one cause.
+pub fn impossible(state: &[u8]) -> Option<&'static str> {
+    let &[past, at, b3, b2, b1, b0, kind, house, third, data, command] = state else {
+        return Some("not eleven bytes");
+    };
+    let bits = u32::from_be_bytes([b3, b2, b1, b0]);
+    let none = kind == 0 && [house, third, data, command] != [0; 4];
+    let short = kind == 1 || kind == 2;
+    let causes = [
+        (none || kind > 3, "kind of no message alone"),
+        (kind == 2 && matches!(third, 7 | 10..=12 | 16..), "code of no function alone"),
+        (short && [data, command] != [0; 2], "data beside a short message alone"),
+        (past > 63, "past alone"),
+        (at > 62, "place alone"),
+        ((23..=62).contains(&at) && bits >> ((at - 23) / 2) & 31 != 15, "pairs alone"),
+        (house > 15 || kind != 2 && third > 15, "house or unit alone"),
+    ];
+    let mut causes = causes.into_iter().filter(|(holds, _)| *holds);
+    let (_, cause) = causes.next()?;
+    causes.next().is_none().then_some(cause)
+}
+
+/// What came among the half-cycles of one slice of the mains route.
+pub const WITHIN: [&str; 7] = [
+    "half-cycle not 0 or 1",
+    "half-cycle not 0 or 1 amid a frame given",
+    "message not carried",
+    "REPEAT of one not carried",
+    "message carried after one not carried",
+    "one message in a slice",
+    "another message in a slice",
+];
+
+/// The counts of a slice's answers beside that of the whole call.
+pub const WHOLE: [&str; 5] = [
+    "whole is the answers' sum",
+    "whole is less",
+    "whole is 0, every level back",
+    "17 to 255 modules over the whole",
+    "256 modules over the whole",
+];
+
+/// A slice of the mains route so far.
+#[derive(Default)]
+pub struct Slice {
+    /// A half-cycle not 0 or 1 stood in the frame that is read.
+    bad_in_frame: bool,
+    not_carried: bool,
+    last_not_carried: bool,
+    messages: usize,
+    /// Of the answers' counts.
+    sum: usize,
+}
+
+impl Slice {
+    /// What comes with a half-cycle: the receiver's place before it, its event and the table's answer.
+    pub fn next(&mut self, at: u8, code: u8, answer: Result<usize, Refusal>) -> Option<&'static str> {
+        if code == 5 {
+            self.bad_in_frame |= at > 4;
+            return Some("half-cycle not 0 or 1");
+        }
+        let bad_in_frame = self.bad_in_frame && at > 4;
+        self.bad_in_frame = bad_in_frame && code == 0;
+        match code {
+            1 => Some(self.message(bad_in_frame, answer)),
+            2 if self.last_not_carried => Some("REPEAT of one not carried"),
+            _ => None,
+        }
+    }
+
+    fn message(&mut self, bad_in_frame: bool, answer: Result<usize, Refusal>) -> &'static str {
+        self.messages += 1;
+        self.sum += answer.unwrap_or(0);
+        self.last_not_carried = answer.is_err();
+        self.not_carried |= self.last_not_carried;
+        if self.last_not_carried {
+            "message not carried"
+        } else if bad_in_frame {
+            "half-cycle not 0 or 1 amid a frame given"
+        } else if self.not_carried {
+            "message carried after one not carried"
+        } else if self.messages == 1 {
+            "one message in a slice"
+        } else {
+            "another message in a slice"
+        }
+    }
+
+    /// What the count of the whole call is to the answers' counts.
+    pub fn whole(&self, count: usize) -> Option<&'static str> {
+        match count {
+            _ if self.sum == 0 => None,
+            0 => Some("whole is 0, every level back"),
+            256 => Some("256 modules over the whole"),
+            17.. => Some("17 to 255 modules over the whole"),
+            _ if count < self.sum => Some("whole is less"),
+            _ => Some("whole is the answers' sum"),
+        }
+    }
+}
+
+/// What a refusal of the mains route came before: the lowest number is given.
+pub const ORDERS: [&str; 5] = ["1 before 6", "1 before 9", "3 before 6", "3 before 9", "6 before 9"];
+
+pub fn order(given: Refusal, also: Refusal) -> &'static str {
+    match (given, also) {
+        (Refusal::Table, Refusal::State) => "1 before 6",
+        (Refusal::Table, _) => "1 before 9",
+        (Refusal::Record, Refusal::State) => "3 before 6",
+        (Refusal::Record, _) => "3 before 9",
+        _ => "6 before 9",
+    }
+}
+
+/// Room for the mains route's events and answers, against what they take.
+pub const EVENTS_ROOM: [&str; 4] = ["events one short", "events exact", "events one over", "other events"];
+pub const ANSWERS_ROOM: [&str; 4] =
+    ["answers one short", "answers exact", "answers one over", "other answers"];
+
+pub fn room(names: &[&'static str; 4], len: usize, asked: usize) -> &'static str {
+    match len {
+        _ if len + 1 == asked => names[0],
+        _ if len == asked => names[1],
+        _ if len == asked + 1 => names[2],
+        _ => names[3],
     }
 }
 

@@ -1,7 +1,8 @@
 //! What a comparison met: cases, differences, and how often each answer, code and situation came.
 
 use crate::lent::Lent;
-use crate::x10::Answer;
+use x10::Answer;
+use x10_model::bytes;
 use x10_model::message::Refusal;
 
 /// Differences of one routine that are printed; the rest are counted.
@@ -52,26 +53,26 @@ impl Tally {
         lent: &mut [&mut Lent],
         told: impl FnOnce() -> String,
     ) {
-        let rust = match rust {
-            Ok(count) => Answer { number: 0, count: count as u64 },
-            Err(refusal) => Answer { number: refusal as u8, count: 0 },
-        };
+        let rust = Answer::from_bits(bytes::packed(rust));
         self.cases += 1;
-        self.answered[usize::from(rust.number)] += 1;
-        // A refusal changes nothing; 4 of the mains route moves the receiver on, and is none.
-        let refused = rust.number != 0 && !(self.routine == "mains_route" && rust.number == 4);
+        self.answered[usize::from(rust.number())] += 1;
+        let refused = rust.number() != 0;
         let kept = !refused || lent.iter().all(|lent| lent.unchanged());
         if rattle == rust && kept && lent.iter().all(|lent| lent.same()) {
             return;
         }
-        self.differences += 1;
-        let mut line = format!("DIFFERENCE {} case {}: {}", self.routine, self.cases, told());
-        line += &format!("\n    Rattle {rattle:?}\n    Rust   {rust:?}");
+        let mut told = format!("{}\n    Rattle {rattle:?}\n    Rust   {rust:?}", told());
         for lent in lent {
-            line += &lent.tell(refused);
+            told += &lent.tell(refused);
         }
+        self.differ(&told);
+    }
+
+    /// Counts a difference, and prints it where few have come.
+    pub fn differ(&mut self, told: &str) {
+        self.differences += 1;
         if self.differences <= PRINTED {
-            println!("{line}");
+            println!("DIFFERENCE {} case {}: {told}", self.routine, self.cases);
         }
     }
 
