@@ -1,4 +1,4 @@
-// Writes half-cycles for the benchmark on standard output: `input bursts COUNT`, bursts of all three kinds of message with three clear
+// Writes half-cycles to be timed on standard output: `input bursts COUNT`, bursts of all three kinds of message with three clear
 // half-cycles before each, or `input clear COUNT`, a clear line.
 use std::io::Write;
 

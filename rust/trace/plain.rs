@@ -92,7 +92,11 @@ impl Receiver {
             self.at += 1;
             return Event::Nothing;
         }
-        let first = past % 2;
+        self.pair(past % 2, half)
+    }
+
+    #[inline(always)]
+    fn pair(&mut self, first: u8, half: u8) -> Event {
         if first == half {
             self.hunt();
             return Event::Broken(10);

@@ -137,6 +137,8 @@ macro_rules! row {
             use x10 as $lib;
             Over { lent: $lent, reset: $reset, run: |$s| $run }
         };
+        // The library has a type of its own for messages; the model takes the five numbers.
+        #[allow(clippy::useless_conversion)]
         let mut rust = {
             use bytes as $lib;
             Over { lent: $lent, reset: $reset, run: |$s| $run }

@@ -152,17 +152,21 @@ impl<'a> Table<'a> {
 
     /// How many levels of a house are other than those.
     pub fn levels_changed(&self, house: u8, before: &[u8; UNITS]) -> usize {
-        differing(&self.levels(house), before)
+        differing(&self.records[usize::from(house) * UNITS..][..UNITS], before)
     }
 
     /// The levels of all houses.
     pub fn all_levels(&self) -> [u8; RECORDS] {
-        std::array::from_fn(|place| self.records[place][LEVEL])
+        let mut levels = [0; RECORDS];
+        for (level, record) in levels.iter_mut().zip(self.records.iter()) {
+            *level = record[LEVEL];
+        }
+        levels
     }
 
     /// How many levels of all houses are other than those.
     pub fn all_levels_changed(&self, before: &[u8; RECORDS]) -> usize {
-        differing(&self.all_levels(), before)
+        differing(self.records, before)
     }
 
     /// What a message does; nothing where it is not carried.
@@ -194,9 +198,9 @@ impl<'a> Table<'a> {
     }
 }
 
-/// At how many places two lists of one length differ.
-fn differing(now: &[u8], then: &[u8]) -> usize {
-    now.iter().zip(then).filter(|(now, then)| now != then).count()
+/// How many of the records have another level than the one beside them.
+fn differing(records: &[Record], levels: &[u8]) -> usize {
+    records.iter().zip(levels).filter(|(record, level)| record[LEVEL] != **level).count()
 }
 
 fn record_ok(record: &Record) -> bool {
