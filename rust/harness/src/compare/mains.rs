@@ -84,7 +84,7 @@ impl Mains {
         }
     }
 
-    /// Hands a line over, in slices of at most one of these lengths. One that is refused for its room
+    /// Hands a line over, in slices of these lengths in any order. One that is refused for its room
     /// is handed over again.
     fn slices(&mut self, rng: &mut Rng, valid: &[u8], line: &[u8], most: &[usize]) {
         self.case(&Case::exact(Some(&fresh()), &[], Some(valid)), rng);
