@@ -93,8 +93,8 @@ uint64_t x10_burst(uint8_t kind, uint8_t house, uint8_t third, uint8_t data, uin
  * not 11. */
 uint64_t x10_receiver_fresh(uint8_t *state, size_t len);
 
-/* The first byte of an event. It is 5 or 6 for a half-cycle that was refused, which leaves the
- * receiver as it was, and 10 or 11 for a broken frame. */
+/* The first byte of an event. It is 5 for a half-cycle that is not 0 or 1, which leaves the receiver
+ * as it was, and 10 or 11 for a broken frame. */
 enum x10_event { X10_NOTHING = 0, X10_GIVEN = 1, X10_REPEAT = 2 };
 
 /* Hands the receiver n half-cycles, one after the other. Event i is the six bytes at events + 6 * i:

@@ -1,0 +1,366 @@
+//! Inputs for the comparison and for the timing: messages, lines, receivers, tables and benches,
+//! valid and damaged.
+
+use crate::rng::Rng;
+use x10_model::burst::{frame_len, write_frame};
+use x10_model::bytes::{self, MESSAGE, RECEIVER};
+use x10_model::message::{Function, Word};
+use x10_model::table;
+
+pub const TABLE: usize = table::LEN;
+const RECORD: usize = 8;
+const RECORDS: usize = 256;
+
+/// Bytes at and around the bounds that the rules name.
+const EDGES: [u8; 20] = [0, 1, 2, 3, 4, 7, 8, 9, 10, 11, 14, 15, 16, 17, 60, 62, 63, 64, 128, 255];
+
+pub fn edge(rng: &mut Rng) -> u8 {
+    if rng.one_in(4) {
+        rng.byte()
+    } else {
+        rng.pick(&EDGES)
+    }
+}
+
+/// A length near one that a routine asks for.
+pub fn length(rng: &mut Rng, asked: usize, most: usize) -> usize {
+    match rng.below(8) {
+        0 => rng.below(most + 1),
+        1 => rng.below(2) * rng.below(asked + 1),
+        2 => asked.saturating_sub(1),
+        3 => (asked + 1).min(most),
+        4 => (asked + rng.below(8)).min(most),
+        _ => asked,
+    }
+}
+
+pub fn function_code(rng: &mut Rng) -> u8 {
+    rng.pick(&Function::ALL).code()
+}
+
+/// Five numbers that are a message.
+pub fn message(rng: &mut Rng) -> [u8; MESSAGE] {
+    let house = rng.below(16) as u8;
+    match rng.below(3) {
+        0 => [1, house, rng.below(16) as u8, rng.byte(), rng.byte()],
+        1 => [2, house, function_code(rng), rng.byte(), rng.byte()],
+        _ => extended(rng, house),
+    }
+}
+
+/// An extended message, with a command that tables carry, and next ones to it, more often than not.
+pub fn extended(rng: &mut Rng, house: u8) -> [u8; MESSAGE] {
+    let command = if rng.one_in(8) { rng.byte() } else { 0x2F + rng.below(16) as u8 };
+    let data = match (command, rng.below(2)) {
+        // Few data bytes are forms of 35 that are carried.
+        (0x35, 0) => rng.pick(&[0x00, 0xF0]) | rng.below(16) as u8,
+        _ => rng.byte(),
+    };
+    [3, house, rng.below(16) as u8, data, command]
+}
+
+/// Five numbers, a message or not.
+pub fn numbers(rng: &mut Rng) -> [u8; MESSAGE] {
+    let mut numbers = message(rng);
+    if rng.one_in(3) {
+        let place = rng.below(3);
+        numbers[place] = edge(rng);
+    }
+    numbers
+}
+
+/// The bits of a message's frame.
+fn word_of(numbers: [u8; MESSAGE]) -> Word {
+    bytes::message(numbers).expect("a message").word()
+}
+
+/// The bits of a frame: of a message, or nine of any values, and so also unsupported codes.
+fn word(rng: &mut Rng) -> Word {
+    if rng.one_in(2) {
+        return word_of(message(rng));
+    }
+    let house = rng.below(16) as u32;
+    let code = if rng.one_in(2) { rng.pick(&[10, 11, 12]) } else { rng.below(16) as u32 };
+    Word { bits: house << 5 | code << 1 | rng.below(2) as u32, len: 9 }
+}
+
+/// A line of about `len` half-cycles: clear parts, bursts, single frames, frames one after the other,
+/// noise, some half-cycles inverted and, where `bad`, some that are neither 0 nor 1.
+pub fn line(rng: &mut Rng, len: usize, bad: bool, line: &mut Vec<u8>) {
+    line.clear();
+    while line.len() < len {
+        match rng.below(12) {
+            0 => {
+                let noise = rng.below(40);
+                line.extend((0..noise).map(|_| rng.below(2) as u8));
+                continue;
+            }
+            1 => line.extend(std::iter::repeat_n(1, rng.below(9))),
+            _ => {}
+        }
+        line.extend(std::iter::repeat_n(0, rng.below(7)));
+        let word = word(rng);
+        let start = line.len();
+        for _ in 0..rng.pick(&[1, 2, 2, 2, 2, 3]) {
+            let frame = line.len();
+            line.resize(frame + frame_len(word), 0);
+            write_frame(word, &mut line[frame..]);
+        }
+        if rng.one_in(3) {
+            for _ in 0..=rng.below(2) {
+                let place = start + rng.below(line.len() - start);
+                line[place] ^= 1;
+            }
+        }
+        if bad && rng.one_in(6) {
+            let place = start + rng.below(line.len() - start);
+            line[place] = edge(rng);
+        }
+        if rng.one_in(8) {
+            line.truncate(start + rng.below(line.len() - start));
+        }
+    }
+    line.truncate(len);
+}
+
+/// Bursts of a few messages for one house, each after clear half-cycles: most move levels of many
+/// modules up or down, some are not carried. Where `bad`, half-cycles that are neither 0 nor 1 stand
+/// between the others.
+pub fn presses(rng: &mut Rng, bad: bool, line: &mut Vec<u8>) {
+    line.clear();
+    let house = rng.below(16) as u8;
+    for _ in 0..2 + rng.below(5) {
+        let unit = rng.below(16) as u8;
+        let numbers = match rng.below(4) {
+            0 => [2, house, rng.pick(&[0, 1, 6]), 0, 0],
+            1 => [3, house, unit, rng.byte(), rng.pick(&[0x31, 0x33, 0x34])],
+            2 => [2, house, rng.pick(&[2, 3, 4, 5]), 0, 0],
+            _ => extended(rng, house),
+        };
+        send(rng, numbers, line);
+    }
+    for _ in 0..if bad { rng.below(4) } else { 0 } {
+        line.insert(rng.below(line.len()), 2 + edge(rng) % 254);
+    }
+}
+
+/// "All lights on", or 33 for one in two, to each house in turn.
+pub fn every_house(rng: &mut Rng, line: &mut Vec<u8>) {
+    line.clear();
+    for house in 0..16 {
+        let numbers = if rng.one_in(2) { [2, house, 1, 0, 0] } else { [3, house, 0, 0, 0x33] };
+        send(rng, numbers, line);
+    }
+}
+
+/// The burst of a message at the line's end, after three clear half-cycles or a few more.
+fn send(rng: &mut Rng, numbers: [u8; MESSAGE], line: &mut Vec<u8>) {
+    let word = word_of(numbers);
+    line.extend(std::iter::repeat_n(0, 3 + rng.below(4)));
+    for _ in 0..2 {
+        let frame = line.len();
+        line.resize(frame + frame_len(word), 0);
+        write_frame(word, &mut line[frame..]);
+    }
+}
+
+/// The five bytes of a receiver's message given before: none, a message, or neither.
+fn given(rng: &mut Rng) -> [u8; MESSAGE] {
+    let mut given = match rng.below(6) {
+        0 | 1 => return [0; MESSAGE],
+        2 => [edge(rng), edge(rng), edge(rng), edge(rng), edge(rng)],
+        _ => message(rng),
+    };
+    if given[0] != 3 && !rng.one_in(8) {
+        given[3] = 0;
+        given[4] = 0;
+    }
+    if rng.one_in(8) {
+        let place = rng.below(MESSAGE);
+        given[place] = edge(rng);
+    }
+    given
+}
+
+/// Eleven bytes with the fields of a receiver as given and the rest of any values, most of them such
+/// that the receiver is not refused.
+pub fn receiver_at(rng: &mut Rng, past: u8, at: u8) -> [u8; RECEIVER] {
+    let mut bits = rng.next() as u32;
+    if rng.one_in(2) {
+        bits &= (1 << 29) - 1;
+    }
+    if at > 22 && !rng.one_in(8) {
+        // From the tenth pair on: code 7 and function bit 1 where they belong.
+        let after = u32::from(at - 23) / 2;
+        if after < 27 {
+            bits = bits & !(31 << after) | 15 << after;
+        }
+    }
+    let mut state = [0; RECEIVER];
+    state[0] = past;
+    state[1] = at;
+    state[2..6].copy_from_slice(&bits.to_be_bytes());
+    state[6..].copy_from_slice(&given(rng));
+    state
+}
+
+/// Eleven bytes: often near a frame's end, where a message is given by the next half-cycle.
+pub fn receiver(rng: &mut Rng) -> [u8; RECEIVER] {
+    let past = if rng.one_in(10) { edge(rng) } else { rng.below(64) as u8 };
+    let at = match rng.below(10) {
+        0 => edge(rng),
+        1 => 0,
+        2 => 1 + rng.below(4) as u8,
+        3..=5 => rng.pick(&[20, 21, 22, 23, 24]),
+        6 | 7 => rng.pick(&[60, 61, 62, 62, 63]),
+        _ => rng.below(63) as u8,
+    };
+    let mut state = receiver_at(rng, past, at);
+    // A message up to the second half-cycle of its last pair, with itself, another or none before it.
+    if rng.one_in(3) {
+        let numbers = written(rng);
+        let word = word_of(numbers);
+        state[0] = state[0] & 62 | (word.bits & 1) as u8;
+        state[1] = frame_len(word) as u8;
+        state[2..6].copy_from_slice(&(word.bits >> 1).to_be_bytes());
+        state[6..].copy_from_slice(&match rng.below(3) {
+            0 => numbers,
+            1 => written(rng),
+            _ => [0; MESSAGE],
+        });
+    }
+    state
+}
+
+/// Five bytes of a message as the routines write them.
+fn written(rng: &mut Rng) -> [u8; MESSAGE] {
+    let mut numbers = message(rng);
+    if numbers[0] != 3 {
+        numbers[3] = 0;
+        numbers[4] = 0;
+    }
+    numbers
+}
+
+/// A record that keeps the rules, of the kind given.
+fn record(rng: &mut Rng, kind: u8) -> [u8; RECORD] {
+    if kind == 0 {
+        return [0; RECORD];
+    }
+    let mut level = || match kind {
+        1 => match rng.below(4) {
+            0 => rng.pick(&[0, 1, 2, 3, 60, 61, 62, 63]),
+            1 => 0,
+            _ => rng.below(64) as u8,
+        },
+        _ => rng.pick(&[0, 63]),
+    };
+    let mut record = [kind, level(), 0, 0, level(), level(), level(), level()];
+    record[2] = rng.below(2) as u8;
+    record[3] = rng.below(16) as u8;
+    for group in 0..4 {
+        if record[3] >> group & 1 == 0 {
+            record[4 + group] = 0;
+        }
+    }
+    record
+}
+
+/// A table that keeps the rules, with `absent` of 4 records of kind 0. Where `alike`, one house in
+/// eight has one record sixteen times, so that a message may change every level of it.
+pub fn table(rng: &mut Rng, absent: usize, alike: bool, bytes: &mut [u8]) {
+    let (records, heard) = bytes.split_at_mut(RECORDS * RECORD);
+    for house in records.chunks_exact_mut(16 * RECORD) {
+        let one = (alike && rng.one_in(8)).then(|| {
+            let kind = 1 + rng.below(2) as u8;
+            record(rng, kind)
+        });
+        for bytes in house.chunks_exact_mut(RECORD) {
+            let kind = if rng.below(4) < absent { 0 } else { 1 + rng.below(2) as u8 };
+            bytes.copy_from_slice(&one.unwrap_or_else(|| record(rng, kind)));
+        }
+    }
+    for byte in heard {
+        *byte = rng.below(2) as u8;
+    }
+}
+
+/// Changes one byte of a table to one at a bound; the table may keep the rules all the same.
+pub fn damage(rng: &mut Rng, bytes: &mut [u8]) {
+    let place = if rng.one_in(8) { RECORDS * RECORD + rng.below(16) } else { rng.below(RECORDS * RECORD) };
+    bytes[place] = edge(rng);
+}
+
+/// Four radio bytes: of a command, or with something wrong.
+pub fn radio_code(rng: &mut Rng) -> [u8; 4] {
+    const HIGH: [u8; 2] = [0x00, 0x04];
+    let b = (rng.below(16) << 4) as u8 | rng.pick(&HIGH);
+    let c = match rng.below(8) {
+        0 => rng.pick(&[136, 152]),
+        1 => rng.byte(),
+        _ => rng.byte() & 0x78,
+    };
+    let b = if c >= 128 && !rng.one_in(8) { b & 0xF0 } else { b };
+    let mut code = [b, !b, c, !c];
+    if rng.one_in(6) {
+        let place = rng.below(4);
+        code[place] ^= 1 << rng.below(8);
+    }
+    code
+}
+
+/// A bench: its messages one after the other, the loads and the draws of some calls.
+pub struct Bench {
+    pub messages: Vec<u8>,
+    pub loads: Vec<u8>,
+    pub draws: Vec<u8>,
+}
+
+/// A bench of n stations and `calls` calls. Houses and units are few, so that messages are equal or
+/// differ late; with `bad`, some numbers are not what the rules ask for.
+pub fn bench(rng: &mut Rng, n: usize, calls: usize, bad: bool, bench: &mut Bench) {
+    bench.messages.clear();
+    let few = rng.pick(&[1, 2, 16]);
+    for _ in 0..n {
+        let mut numbers = message(rng);
+        numbers[1] %= few;
+        if few < 16 && numbers[0] != 2 {
+            numbers[2] %= few;
+        }
+        bench.messages.extend(numbers);
+    }
+    let draw = |rng: &mut Rng| 8 + rng.below(3) as u8;
+    bench.loads.clear();
+    bench.loads.extend((0..n).map(|_| draw(rng)));
+    bench.draws.clear();
+    bench.draws.extend((0..n * calls).map(|_| draw(rng)));
+    if bad {
+        spoil(rng, n, bench);
+    }
+}
+
+/// Puts bytes at a bound among those of a bench, and changes lengths, now and then.
+fn spoil(rng: &mut Rng, n: usize, bench: &mut Bench) {
+    if n > 0 && rng.one_in(12) {
+        let place = rng.below(5 * n);
+        bench.messages[place] = edge(rng);
+    }
+    if n > 0 && rng.one_in(12) {
+        let place = rng.below(n);
+        bench.loads[place] = edge(rng);
+    }
+    if !bench.draws.is_empty() && rng.one_in(3) {
+        for _ in 0..1 + rng.below(4) {
+            let place = rng.below(bench.draws.len());
+            bench.draws[place] = edge(rng);
+        }
+    }
+    if rng.one_in(16) {
+        let len = length(rng, bench.messages.len(), bench.messages.len() + 5);
+        bench.messages.resize(len, 1);
+    }
+    if rng.one_in(16) {
+        let len = length(rng, bench.draws.len(), bench.draws.len() + n + 1);
+        bench.draws.resize(len, 8);
+    }
+}

@@ -1,0 +1,549 @@
+//! The module table: 256 records of 8 bytes in order A1..P16, then one "command heard" byte per
+//! house.
+
+use crate::message::{Function, Message, Refusal};
+
+/// Bytes of a table.
+pub const LEN: usize = RECORDS * RECORD + HOUSES;
+const RECORDS: usize = 256;
+const RECORD: usize = 8;
+const HOUSES: usize = 16;
+const UNITS: usize = 16;
+
+/// One module: kind, level, addressed, group mask, four presets.
+pub type Record = [u8; RECORD];
+
+const KIND: usize = 0;
+const LEVEL: usize = 1;
+const ADDRESSED: usize = 2;
+const GROUPS: usize = 3;
+const PRESETS: usize = 4;
+
+const NONE: u8 = 0;
+const LAMP: u8 = 1;
+const APPLIANCE: u8 = 2;
+
+/// The highest level.
+const FULL: u8 = 63;
+
+/// A lent table of the right length.
+pub struct Table<'a> {
+    records: &'a mut [Record],
+    heard: &'a mut [u8],
+}
+
+/// What an extended command asks for.
+#[derive(Clone, Copy, Debug, PartialEq, Eq)]
+enum Extended {
+    /// The unit joins a group, at its level now or with a preset.
+    JoinAtLevel {
+        group: usize,
+    },
+    JoinWith {
+        group: usize,
+        preset: u8,
+    },
+    /// The unit's level.
+    Level(u8),
+    /// All present units of the house.
+    House(u8),
+    /// Groups to leave, as a mask.
+    UnitLeaves(u8),
+    HouseLeaves(u8),
+    /// The house's members of a group.
+    Recall {
+        group: usize,
+    },
+    GroupOff {
+        group: usize,
+    },
+    Step {
+        group: usize,
+        up: bool,
+    },
+    Heard,
+}
+
+impl Extended {
+    /// None where the command is not carried.
+    fn read(data: u8, command: u8) -> Option<Extended> {
+        let group = usize::from(data >> 6);
+        let level = data % 64;
+        let bits_5_4 = data >> 4 & 3;
+        let low = data & 15;
+        match command {
+            0x30 if bits_5_4 < 2 => Some(Extended::JoinAtLevel { group }),
+            0x31 => Some(Extended::Level(level)),
+            0x32 => Some(Extended::JoinWith { group, preset: level }),
+            0x33 => Some(Extended::House(FULL)),
+            0x34 => Some(Extended::House(0)),
+            0x35 if data >> 4 == 0 => Some(Extended::UnitLeaves(low)),
+            0x35 if data >> 4 == 15 => Some(Extended::HouseLeaves(low)),
+            0x36 if bits_5_4 == 0 => Some(Extended::Recall { group }),
+            0x36 if bits_5_4 == 1 => Some(Extended::GroupOff { group }),
+            0x37 if bits_5_4 < 2 || bits_5_4 == 2 && low == 0 => Some(Extended::Heard),
+            0x38..=0x3B => Some(Extended::Heard),
+            0x3C if bits_5_4 < 2 => Some(Extended::Step { group, up: bits_5_4 == 1 }),
+            _ => None,
+        }
+    }
+}
+
+/// Whether a table carries the message at all.
+fn carried(message: Message) -> bool {
+    match message {
+        Message::Extended { data, command, .. } => Extended::read(data, command).is_some(),
+        _ => true,
+    }
+}
+
+/// Applies a message and counts the records whose level differs before and after: refusals 1, 2, 3
+/// and 4, which change nothing.
+pub fn apply(bytes: &mut [u8], message: Message) -> Result<usize, Refusal> {
+    let mut table = Table::open(bytes)?;
+    message.judge()?;
+    table.judge()?;
+    table.apply(message)
+}
+
+impl<'a> Table<'a> {
+    /// 1 where the length is not that of a table.
+    pub fn open(bytes: &'a mut [u8]) -> Result<Table<'a>, Refusal> {
+        if bytes.len() != LEN {
+            return Err(Refusal::Table);
+        }
+        let (records, heard) = bytes.split_at_mut(RECORDS * RECORD);
+        let (records, _) = records.as_chunks_mut::<RECORD>();
+        Ok(Table { records, heard })
+    }
+
+    /// A table that may be applied to: 1, 3.
+    pub fn valid(bytes: &'a mut [u8]) -> Result<Table<'a>, Refusal> {
+        let table = Table::open(bytes)?;
+        table.judge()?;
+        Ok(table)
+    }
+
+    /// 3 where a record or a house byte breaks a rule.
+    pub fn judge(&self) -> Result<(), Refusal> {
+        if self.records.iter().all(record_ok) && self.heard.iter().all(|&byte| byte <= 1) {
+            Ok(())
+        } else {
+            Err(Refusal::Record)
+        }
+    }
+
+    /// Applies a message that `Message::judge` lets pass to a table that `judge` lets pass. 4 where
+    /// the table does not carry it.
+    pub fn apply(&mut self, message: Message) -> Result<usize, Refusal> {
+        if !carried(message) {
+            return Err(Refusal::NotCarried);
+        }
+        let before = self.levels(message.house());
+        self.act(message);
+        Ok(self.levels_changed(message.house(), &before))
+    }
+
+    /// The levels of a house: a message changes no other.
+    pub fn levels(&self, house: u8) -> [u8; UNITS] {
+        let first = usize::from(house) * UNITS;
+        std::array::from_fn(|unit| self.records[first + unit][LEVEL])
+    }
+
+    /// How many levels of a house are other than those.
+    pub fn levels_changed(&self, house: u8, before: &[u8; UNITS]) -> usize {
+        differing(&self.records[usize::from(house) * UNITS..][..UNITS], before)
+    }
+
+    /// The levels of all houses.
+    pub fn all_levels(&self) -> [u8; RECORDS] {
+        let mut levels = [0; RECORDS];
+        for (level, record) in levels.iter_mut().zip(self.records.iter()) {
+            *level = record[LEVEL];
+        }
+        levels
+    }
+
+    /// How many levels of all houses are other than those.
+    pub fn all_levels_changed(&self, before: &[u8; RECORDS]) -> usize {
+        differing(self.records, before)
+    }
+
+    /// What a message does; nothing where it is not carried.
+    pub fn act(&mut self, message: Message) {
+        let house = usize::from(message.house());
+        let records = &mut self.records[house * UNITS..][..UNITS];
+        let heard = &mut self.heard[house];
+        match message {
+            Message::Address { unit, .. } => {
+                if *heard == 1 {
+                    *heard = 0;
+                    unaddress(records);
+                }
+                let record = &mut records[usize::from(unit)];
+                if record[KIND] != NONE {
+                    record[ADDRESSED] = 1;
+                }
+            }
+            Message::Function { function, .. } => {
+                function_acts(records, function);
+                *heard = 1;
+            }
+            Message::Extended { unit, data, command, .. } => {
+                if let Some(extended) = Extended::read(data, command) {
+                    extended_acts(records, usize::from(unit), extended);
+                }
+            }
+        }
+    }
+}
+
+/// How many of the records have another level than the one beside them.
+fn differing(records: &[Record], levels: &[u8]) -> usize {
+    records.iter().zip(levels).filter(|(record, level)| record[LEVEL] != **level).count()
+}
+
+fn record_ok(record: &Record) -> bool {
+    let [kind, level, addressed, groups, presets @ ..] = *record;
+    let fits = |level: u8| match kind {
+        LAMP => level <= FULL,
+        _ => level == 0 || level == FULL,
+    };
+    let preset_ok = |(group, &preset)| preset == 0 || is_member(record, group) && fits(preset);
+    match kind {
+        NONE => *record == [0; RECORD],
+        LAMP | APPLIANCE => {
+            fits(level) && addressed <= 1 && groups <= 15 && presets.iter().enumerate().all(preset_ok)
+        }
+        _ => false,
+    }
+}
+
+fn is_member(record: &Record, group: usize) -> bool {
+    record[GROUPS] >> group & 1 == 1
+}
+
+fn unaddress(records: &mut [Record]) {
+    for record in records {
+        record[ADDRESSED] = 0;
+    }
+}
+
+/// A lamp one step up or down. A lamp at 0 is first put to 63; a lit one never goes out.
+fn step(level: u8, up: bool) -> u8 {
+    let lit = if level == 0 { FULL } else { level };
+    if up {
+        (lit + 3).min(FULL)
+    } else {
+        lit.saturating_sub(3).max(1)
+    }
+}
+
+/// The level or preset that a unit takes for a value B.
+fn taken(record: &Record, value: u8) -> u8 {
+    if record[KIND] == APPLIANCE && value != 0 {
+        FULL
+    } else {
+        value
+    }
+}
+
+fn function_acts(records: &mut [Record], function: Function) {
+    let lamps = |record: &&mut Record| record[KIND] == LAMP;
+    let addressed = |record: &&mut Record| record[ADDRESSED] == 1;
+    match function {
+        Function::AllUnitsOff => {
+            for record in records {
+                record[LEVEL] = 0;
+                record[ADDRESSED] = 0;
+            }
+        }
+        Function::AllLightsOn => records.iter_mut().filter(lamps).for_each(|lamp| lamp[LEVEL] = FULL),
+        Function::AllLightsOff => records.iter_mut().filter(lamps).for_each(|lamp| lamp[LEVEL] = 0),
+        Function::On => {
+            for record in records.iter_mut().filter(addressed) {
+                if record[LEVEL] == 0 {
+                    record[LEVEL] = FULL;
+                }
+            }
+        }
+        Function::Off => records.iter_mut().filter(addressed).for_each(|record| record[LEVEL] = 0),
+        Function::Dim | Function::Bright => {
+            let up = function == Function::Bright;
+            for lamp in records.iter_mut().filter(addressed).filter(lamps) {
+                lamp[LEVEL] = step(lamp[LEVEL], up);
+            }
+        }
+        Function::HailRequest
+        | Function::HailAcknowledge
+        | Function::StatusOn
+        | Function::StatusOff
+        | Function::StatusRequest => {}
+    }
+}
+
+fn extended_acts(records: &mut [Record], unit: usize, extended: Extended) {
+    match extended {
+        Extended::JoinAtLevel { group } => {
+            let record = &mut records[unit];
+            join(record, group, record[LEVEL]);
+        }
+        Extended::JoinWith { group, preset } => {
+            let record = &mut records[unit];
+            join(record, group, taken(record, preset));
+        }
+        Extended::Level(level) => {
+            let record = &mut records[unit];
+            if record[KIND] != NONE {
+                record[LEVEL] = taken(record, level);
+            }
+        }
+        Extended::House(level) => {
+            for record in records.iter_mut().filter(|record| record[KIND] != NONE) {
+                record[LEVEL] = level;
+            }
+        }
+        Extended::UnitLeaves(groups) => leave(&mut records[unit], groups),
+        Extended::HouseLeaves(groups) => records.iter_mut().for_each(|record| leave(record, groups)),
+        Extended::Recall { group } => {
+            members(records, group).for_each(|record| record[LEVEL] = record[PRESETS + group])
+        }
+        Extended::GroupOff { group } => members(records, group).for_each(|record| record[LEVEL] = 0),
+        Extended::Step { group, up } => {
+            for lamp in members(records, group).filter(|record| record[KIND] == LAMP) {
+                lamp[LEVEL] = step(lamp[LEVEL], up);
+            }
+        }
+        Extended::Heard => {}
+    }
+}
+
+fn members(records: &mut [Record], group: usize) -> impl Iterator<Item = &mut Record> {
+    records.iter_mut().filter(move |record| is_member(record, group))
+}
+
+/// A present unit joins a group.
+fn join(record: &mut Record, group: usize, preset: u8) {
+    if record[KIND] != NONE {
+        record[GROUPS] |= 1 << group;
+        record[PRESETS + group] = preset;
+    }
+}
+
+/// A unit leaves the groups of a mask. An absent one has none to leave.
+fn leave(record: &mut Record, groups: u8) {
+    record[GROUPS] &= !groups;
+    for group in 0..4 {
+        if groups >> group & 1 == 1 {
+            record[PRESETS + group] = 0;
+        }
+    }
+}
+
+#[cfg(test)]
+mod tests {
+    use super::*;
+
+    /// A table with one module, A1.
+    fn with_a1(record: Record) -> Vec<u8> {
+        let mut table = vec![0; LEN];
+        table[..RECORD].copy_from_slice(&record);
+        table
+    }
+
+    fn function(function: Function) -> Message {
+        Message::Function { house: 0, function }
+    }
+
+    fn extended(data: u8, command: u8) -> Message {
+        Message::Extended { house: 0, unit: 0, data, command }
+    }
+
+    /// The record that a message makes of A1, and the count.
+    fn after(record: Record, message: Message) -> (Record, usize) {
+        let mut table = with_a1(record);
+        let count = apply(&mut table, message).unwrap();
+        (table[..RECORD].try_into().unwrap(), count)
+    }
+
+    fn level_after(record: Record, message: Message) -> u8 {
+        after(record, message).0[LEVEL]
+    }
+
+    const LIT: fn(u8) -> Record = |level| [LAMP, level, 1, 0, 0, 0, 0, 0];
+
+    #[test]
+    fn p8_lamp_2_dim() {
+        assert_eq!(level_after(LIT(2), function(Function::Dim)), 1);
+    }
+
+    #[test]
+    fn p9_lamp_0_dim() {
+        assert_eq!(level_after(LIT(0), function(Function::Dim)), 60);
+    }
+
+    #[test]
+    fn p10_lamp_62_bright() {
+        assert_eq!(level_after(LIT(62), function(Function::Bright)), 63);
+    }
+
+    #[test]
+    fn p11_lamp_31_with_c0() {
+        assert_eq!(level_after(LIT(20), extended(0xC0, 0x31)), 0);
+    }
+
+    #[test]
+    fn p12_appliance_31_with_05() {
+        assert_eq!(level_after([APPLIANCE, 0, 0, 0, 0, 0, 0, 0], extended(0x05, 0x31)), 63);
+    }
+
+    #[test]
+    fn on_leaves_a_lit_module() {
+        assert_eq!(after(LIT(7), function(Function::On)), (LIT(7), 0));
+        assert_eq!(after(LIT(0), function(Function::On)), (LIT(63), 1));
+        assert_eq!(after([LAMP, 0, 0, 0, 0, 0, 0, 0], function(Function::On)).1, 0);
+    }
+
+    #[test]
+    fn all_units_off_unaddresses() {
+        assert_eq!(after(LIT(7), function(Function::AllUnitsOff)), ([LAMP, 0, 0, 0, 0, 0, 0, 0], 1));
+    }
+
+    #[test]
+    fn all_lights_reach_lamps_only() {
+        let appliance = [APPLIANCE, 63, 1, 0, 0, 0, 0, 0];
+        assert_eq!(after(appliance, function(Function::AllLightsOff)), (appliance, 0));
+        assert_eq!(level_after([LAMP, 4, 0, 0, 0, 0, 0, 0], function(Function::AllLightsOff)), 0);
+        assert_eq!(level_after([LAMP, 4, 0, 0, 0, 0, 0, 0], function(Function::AllLightsOn)), 63);
+    }
+
+    #[test]
+    fn dim_moves_no_appliance() {
+        let appliance = [APPLIANCE, 63, 1, 0, 0, 0, 0, 0];
+        assert_eq!(after(appliance, function(Function::Dim)), (appliance, 0));
+    }
+
+    #[test]
+    fn an_address_after_a_function_starts_anew() {
+        let mut table = with_a1(LIT(5));
+        let byte = RECORDS * RECORD;
+        table[RECORD] = LAMP;
+        assert_eq!(apply(&mut table, function(Function::HailRequest)), Ok(0));
+        assert_eq!(table[byte], 1);
+        assert_eq!(apply(&mut table, Message::Address { house: 0, unit: 1 }), Ok(0));
+        assert_eq!((table[ADDRESSED], table[RECORD + ADDRESSED], table[byte]), (0, 1, 0));
+        assert_eq!(apply(&mut table, Message::Address { house: 0, unit: 0 }), Ok(0));
+        assert_eq!((table[ADDRESSED], table[RECORD + ADDRESSED]), (1, 1));
+        // An absent unit is not addressed, and still clears the house.
+        assert_eq!(apply(&mut table, function(Function::StatusOn)), Ok(0));
+        assert_eq!(apply(&mut table, Message::Address { house: 0, unit: 9 }), Ok(0));
+        assert_eq!((table[ADDRESSED], table[RECORD + ADDRESSED], table[byte]), (0, 0, 0));
+        assert_eq!(table[9 * RECORD..10 * RECORD], [0; RECORD]);
+    }
+
+    #[test]
+    fn extended_commands_touch_neither_addressing_nor_house_bytes() {
+        let mut table = with_a1(LIT(5));
+        let byte = RECORDS * RECORD;
+        for heard in [0, 1] {
+            table[byte] = heard;
+            for command in 0..=255 {
+                let _ = apply(&mut table, extended(0, command));
+                assert_eq!((table[ADDRESSED], table[byte]), (1, heard));
+            }
+        }
+    }
+
+    #[test]
+    fn groups() {
+        let joined = after(LIT(5), extended(0x80, 0x30)).0;
+        assert_eq!(joined, [LAMP, 5, 1, 4, 0, 0, 5, 0]);
+        let (preset, count) = after(joined, extended(0x4A, 0x32));
+        assert_eq!((preset, count), ([LAMP, 5, 1, 6, 0, 10, 5, 0], 0));
+        assert_eq!(level_after(preset, extended(0x40, 0x36)), 10);
+        assert_eq!(level_after(preset, extended(0x50, 0x36)), 0);
+        assert_eq!(level_after(preset, extended(0x00, 0x36)), 5);
+        assert_eq!(level_after(preset, extended(0x50, 0x3C)), 8);
+        assert_eq!(level_after(preset, extended(0x40, 0x3C)), 2);
+        assert_eq!(after(preset, extended(0x02, 0x35)).0, [LAMP, 5, 1, 4, 0, 0, 5, 0]);
+        assert_eq!(after(preset, extended(0xFF, 0x35)).0, LIT(5));
+        assert_eq!(after(preset, extended(0x00, 0x35)).0, preset);
+        let appliance = [APPLIANCE, 63, 0, 0, 0, 0, 0, 0];
+        assert_eq!(after(appliance, extended(0xC1, 0x32)).0, [APPLIANCE, 63, 0, 8, 0, 0, 0, 63]);
+        assert_eq!(after(appliance, extended(0xC0, 0x32)).0, [APPLIANCE, 63, 0, 8, 0, 0, 0, 0]);
+        // Joined at level 0: a member with preset 0.
+        assert_eq!(after(LIT(0), extended(0x00, 0x30)).0, [LAMP, 0, 1, 1, 0, 0, 0, 0]);
+        // 3C on a lamp at 0.
+        let dark = [LAMP, 0, 0, 1, 0, 0, 0, 0];
+        assert_eq!(level_after(dark, extended(0x00, 0x3C)), 60);
+        assert_eq!(level_after(dark, extended(0x10, 0x3C)), 63);
+    }
+
+    #[test]
+    fn what_is_carried() {
+        let mut carried = Vec::new();
+        for command in 0..=255u8 {
+            let count = (0..=255).filter(|&data| Extended::read(data, command).is_some()).count();
+            if count > 0 {
+                carried.push((command, count));
+            }
+        }
+        let told = [
+            (0x30, 128),
+            (0x31, 256),
+            (0x32, 256),
+            (0x33, 256),
+            (0x34, 256),
+            (0x35, 32),
+            (0x36, 128),
+            (0x37, 132),
+            (0x38, 256),
+            (0x39, 256),
+            (0x3A, 256),
+            (0x3B, 256),
+            (0x3C, 128),
+        ];
+        assert_eq!(carried, told);
+    }
+
+    #[test]
+    fn refusals_in_order_and_nothing_changed() {
+        let none = Message::Extended { house: 0, unit: 16, data: 0, command: 0x33 };
+        assert_eq!(apply(&mut [0; LEN - 1], none), Err(Refusal::Table));
+        let mut bad = with_a1([LAMP, 64, 0, 0, 0, 0, 0, 0]);
+        let copy = bad.clone();
+        assert_eq!(apply(&mut bad, none), Err(Refusal::Message));
+        assert_eq!(apply(&mut bad, extended(0x20, 0x30)), Err(Refusal::Record));
+        assert_eq!(bad, copy);
+        let mut good = with_a1(LIT(9));
+        let copy = good.clone();
+        assert_eq!(apply(&mut good, extended(0x20, 0x30)), Err(Refusal::NotCarried));
+        assert_eq!(good, copy);
+    }
+
+    #[test]
+    fn records_that_break_a_rule() {
+        let bad: [Record; 13] = [
+            [3, 0, 0, 0, 0, 0, 0, 0],
+            [NONE, 1, 0, 0, 0, 0, 0, 0],
+            [NONE, 0, 1, 0, 0, 0, 0, 0],
+            [NONE, 0, 0, 1, 0, 0, 0, 0],
+            [NONE, 0, 0, 0, 0, 0, 0, 1],
+            [LAMP, 64, 0, 0, 0, 0, 0, 0],
+            [LAMP, 0, 2, 0, 0, 0, 0, 0],
+            [LAMP, 0, 0, 16, 0, 0, 0, 0],
+            [LAMP, 0, 0, 1, 64, 0, 0, 0],
+            [LAMP, 0, 0, 1, 0, 1, 0, 0],
+            [APPLIANCE, 62, 0, 0, 0, 0, 0, 0],
+            [APPLIANCE, 0, 0, 8, 0, 0, 0, 62],
+            [APPLIANCE, 0, 0, 7, 0, 0, 0, 63],
+        ];
+        for record in bad {
+            let mut table = with_a1(record);
+            assert_eq!(apply(&mut table, function(Function::On)), Err(Refusal::Record), "{record:?}");
+        }
+        let mut table = with_a1(LIT(0));
+        table[LEN - 1] = 2;
+        assert_eq!(apply(&mut table, function(Function::On)), Err(Refusal::Record));
+    }
+}
