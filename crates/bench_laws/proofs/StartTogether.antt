@@ -18,19 +18,19 @@ use Rattle.burst.specs.Frames.{burstOf, burstLength}
 use Rattle.station.specs.Stations.{stationOk, isEmpty, sendsOf}
 use Rattle.station.specs.declared.Held.{Held}
 use Rattle.station.specs.declared.Station.{Station}
-use Rattle.bench.specs.declared.BenchAnswer.the-variants.{Line}
-use Rattle.bench.specs.declared.BenchTurn.{BenchTurn}
-use Rattle.access.specs.Calls.{Moment, linesOf, atStart, hears, call, run, Drawn}
-use Rattle.access.specs.Demand3.{Start, timesDone}
-use Rattle.access.specs.Together.{Starts, Greatest, Later, GreatestWins, EqualsFinishTogether}
-use Rattle.access.proofs.BurstLaws.{burst-some}
-use Rattle.access.proofs.Turns.{holding, holds}
-use Rattle.access.proofs.StationStates.{Sending, Stands, gone, waiting, sends, sending-half, who-sends, mark, vacant}
-use Rattle.access.proofs.BenchLaws.{Turns}
-use Rattle.access.proofs.Moments.{slot, Alike, alike, all-ok}
-use Rattle.access.proofs.WholeList.{Called, refused, taken, bench, Reached, at-start, called, reached}
-use Rattle.access.proofs.Compare.{not-ahead}
-use Rattle.access.proofs.Tracks.{Carried, carried-more, Along, Track, along, over, behind, along-turn, track-turn, Aside, empty, idle, aside-turn, not-aside, at-place}
+use Rattle.station.specs.declared.bench.BenchAnswer.the-variants.{Line}
+use Rattle.station.specs.declared.bench.BenchTurn.{BenchTurn}
+use Rattle.bench_run.specs.Calls.{Moment, linesOf, atStart, hears, call, run, Drawn}
+use Rattle.bench_laws.specs.Demand3.{Start, timesDone}
+use Rattle.bench_laws.specs.Together.{Starts, Greatest, Later, GreatestWins, EqualsFinishTogether}
+use Rattle.bench_laws.proofs.BurstLaws.{burst-some}
+use Rattle.bench_laws.proofs.Turns.{holding, holds}
+use Rattle.bench_laws.proofs.StationStates.{Sending, Stands, gone, waiting, sends, sending-half, who-sends, mark, vacant}
+use Rattle.bench_laws.proofs.BenchLaws.{Turns}
+use Rattle.bench_laws.proofs.Moments.{slot, Alike, alike, all-ok}
+use Rattle.bench_laws.proofs.WholeList.{Called, refused, taken, bench, Reached, at-start, called, reached}
+use Rattle.bench_laws.proofs.Compare.{not-ahead}
+use Rattle.bench_laws.proofs.Tracks.{Carried, carried-more, Along, Track, along, over, behind, along-turn, track-turn, Aside, empty, idle, aside-turn, not-aside, at-place}
 
 module _ (n : ℕ) (message : ℕ → Message) (draw : ℕ → ℕ) (slots : List Station) (S : Start n message draw slots) where
   valid : (i : ℕ) → i < n → messageOk (message i) ≡ true

@@ -1,4 +1,3 @@
-pub mod Calls
 pub mod Demand3
 pub mod Bound
 pub mod Together
