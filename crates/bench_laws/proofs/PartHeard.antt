@@ -87,9 +87,9 @@ module _ (past before : List Answered) where
   looked-back : (m : Message) → linesOf past ≡ reverseAux (burstOf m) (linesOf before) → eventsIn past ≡ reverseAux (burstEvents m) (eventsIn before)
       → SentAndHeard m past
   unfolding burstEvents frameEvents
-  looked-back (Address h u) lines events = record { sent = lines-back (Address h u) lines; given = rw events refl; repeated = rw events refl }
-  looked-back (Command h f) lines events = record { sent = lines-back (Command h f) lines; given = rw events refl; repeated = rw events refl }
-  looked-back (Extended h u d c) lines events = record { sent = lines-back (Extended h u d c) lines; given = rw events refl; repeated = rw events refl }
+  looked-back (Address h u) lines events = record { sent = lines-back (Address h u) lines; gave = rw events refl; repeated = rw events refl }
+  looked-back (Command h f) lines events = record { sent = lines-back (Command h f) lines; gave = rw events refl; repeated = rw events refl }
+  looked-back (Extended h u d c) lines events = record { sent = lines-back (Extended h u d c) lines; gave = rw events refl; repeated = rw events refl }
 
   pub sent-and-heard : (m : Message) → messageOk m ≡ true → BytesOk m → (r : Receiver) → Ready r
       → linesOf past ≡ reverseAux (burstOf m) (linesOf before) → eventsIn past ≡ reverseAux (eventsOf r (burstOf m)) (eventsIn before) → SentAndHeard m past

@@ -41,7 +41,7 @@ pub record SentAndHeard (m : Message) (past : List Answered) : Type 0 where
   -- it "has gone out whole and twice when the last 2f half-cycles answered are its burst"
   pub sent : take (burstLength m) (linesOf past) ≡ reverse (burstOf m)
   -- "The receiver has heard it when it gave MESSAGE with that message f half-cycles before
-  pub given : getD (eventsIn past) (frameLength m) Nothing ≡ Gives m
+  pub gave : getD (eventsIn past) (frameLength m) Nothing ≡ Gives m
   -- and now gives REPEAT."
   pub repeated : getD (eventsIn past) 0 Nothing ≡ Repeat
 
