@@ -33,7 +33,8 @@ use Rattle.bench_laws.specs.Demand3.{SaysDone, SentAndHeard}
 use Rattle.bench_laws.proofs.BurstLaws.{burst-most, counted, countedBy, counted-append, clear-briefly}
 use Rattle.bench_laws.proofs.BenchLaws.{turnAt, Turns}
 use Rattle.bench_laws.proofs.Turns.{done-of, drawn}
-use Rattle.bench_laws.proofs.StationStates.{Front, Follows, front-more, front-less, whole, Sending, Stands, sending-half, who-sends, vacant, Outcome, outcome, ends-here, sends-still, Settles, keeps-sending, is-over, done-whole}
+use Rattle.bench_laws.proofs.StationStates.{Front, Follows, front-more, front-less, whole, Sending, Stands, sending-half, who-sends, vacant, Outcome}
+use Rattle.bench_laws.proofs.StationStates.{outcome, ends-here, sends-still, Settles, keeps-sending, is-over, done-whole}
 use Rattle.bench_laws.proofs.PartHeard.{end-repeats, gives-this, says-cleanly, part-next, part-events, part-event, sent-and-heard}
 use Rattle.bench_laws.proofs.Tally.{total-grows, total-rises}
 use Rattle.bench_laws.proofs.Moments.{slot, newest, Bench, Kept, Quiet, Underway, Sender, State, quiet, busy, keeps, going-right, quiet-call}
@@ -226,7 +227,8 @@ module _ (n : ℕ) (message : ℕ → Message) (B : Bench n message) (start : Li
             (q .0, busy z r (sent ++ h ∷ []) (q .1) (q .2))
 
     -- a 1 on the line is sent by some station
-    one-heard : (h : ℕ) → suc h ≤ 1 → Turns n (now .slots) draws (suc h) t → (z : ℕ) (r : Receiver) (sent : List ℕ) → Underway n message z r sent now → Next (suc h)
+    one-heard : (h : ℕ) → suc h ≤ 1 → Turns n (now .slots) draws (suc h) t → (z : ℕ) (r : Receiver) (sent : List ℕ)
+        → Underway n message z r sent now → Next (suc h)
     one-heard h low T z r sent R = go (T .some)
       where
         go : (suc h ≡ 0) ⊎ ((i : ℕ) × (i < n) × (sendsOf (slot now i) ≡ suc h)) → Next (suc h)

@@ -40,7 +40,8 @@ use Rattle.wire.specs.declared.MessageRead.{MessageRead}
 use Rattle.wire.specs.declared.MessageRead.the-variants.{Message as Says, Refused as NoMessage}
 use Rattle.wire.proofs.MessageLaws.{messages-read-back}
 use Rattle.bench_run.specs.Calls.{Answered, Moment, atStart, hears, call, run, Drawn}
-use Rattle.bench_run.specs.BenchRuns.{saysMessage, allSay, loadedBy, benchFrom, slotsFrom, drawsOf, callsOf, momentAfter, turnsOf, Lent, runCauses, slotsIn, momentIn, turnsIn, runAnswer, linesAfter, marksAfter}
+use Rattle.bench_run.specs.BenchRuns.{saysMessage, allSay, loadedBy, benchFrom, slotsFrom, drawsOf, callsOf, momentAfter, turnsOf, Lent, runCauses, slotsIn}
+use Rattle.bench_run.specs.BenchRuns.{momentIn, turnsIn, runAnswer, linesAfter, marksAfter}
 use Rattle.bench_run.proofs.LoadLaws.{bench-length}
 use Rattle.bench_laws.specs.Demand3.{Start}
 use Rattle.bench_laws.specs.ExportedRun.{answeredBy, keptOf, Exported, ExportedRun}

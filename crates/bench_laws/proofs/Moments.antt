@@ -126,7 +126,8 @@ module _ (n : ℕ) (message : ℕ → Message) where
     }
 
   -- none sends: all that wait have counted one more
-  module _ (B : Bench) (start : List Station) (now : Moment) (draws : List ℕ) (t : BenchTurn) (T : Turns n (now .slots) draws 0 t) (c : ℕ) (Q : Quiet c now) where
+  module _ (B : Bench) (start : List Station) (now : Moment) (draws : List ℕ) (t : BenchTurn) (T : Turns n (now .slots) draws 0 t)
+      (c : ℕ) (Q : Quiet c now) where
     settled : (i : ℕ) → i < n
         → Settles (message i) [] (c + 1) (slot now i) (turnAt 0 (now .slots) draws i) × (isDone (turnAt 0 (now .slots) draws i .answer) ≡ false)
     settled i l = counts-on (message i) (B .valid i l) c (getD draws i 0) (T .draw i l) (slot now i) (T .above i l) (Q .stations i l)

@@ -17,7 +17,8 @@ use Rattle.ground.specs.declared.CountAnswer.the-variants.{Done, Refused}
 use Rattle.ground.specs.declared.Refusal.{Refusal}
 use Rattle.ground.proofs.Causes.{judged-map, nothing-refused, lowest-given}
 use Rattle.station.specs.declared.Station.{Station}
-use Rattle.bench_run.specs.BenchRuns.{slotsFrom, momentAfter, turnsOf, lineBytes, markBytes, Lent, runCauses, slotsIn, momentIn, turnsIn, runAnswer, runReport, linesAfter, marksAfter, RunLowest}
+use Rattle.bench_run.specs.BenchRuns.{slotsFrom, momentAfter, turnsOf, lineBytes, markBytes, Lent, runCauses, slotsIn, momentIn, turnsIn, runAnswer}
+use Rattle.bench_run.specs.BenchRuns.{runReport, linesAfter, marksAfter, RunLowest}
 
 pub draws-match : (n draws calls : ℕ) → draws / n ≡ calls → draws % n ≡ 0 → draws ≡ n * calls
 draws-match n draws calls q r = sym (div-add-mod draws n) ∙ rw (q, r) (omega arith)
@@ -71,10 +72,18 @@ module _ (l : Lent) where
       let n = length (l .loads) in
       let k = length (l .lines) in
       let answer : Done count ≡ runAnswer l =
-      ap Done (did .0 ∙ ap (λ (s : List Station). length (momentAfter n s (l .draws) k .past)) from) ∙ sym (nothing-refused _ _ (runCauses l) none) in
-      (answer, (reported answer,
-      (did .1 .0 ∙ ap (λ (s : List Station). lineBytes (turnsOf n s (l .draws) k)) from ∙ sym (nothing-refused _ _ (runCauses l) none),
-      did .1 .1 ∙ ap (λ (s : List Station). flatMap markBytes (turnsOf n s (l .draws) k) ++ drop (2 * k) (l .marks)) from ∙ sym (nothing-refused _ _ (runCauses l) none))))
+      ap Done (did .0 ∙ ap (λ (s : List Station). length (momentAfter n s (l .draws) k .past)) from) ∙ sym (nothing-refused _ _ (runCauses l) none) in (
+        answer,
+        (
+          reported answer,
+          (
+            did .1 .0 ∙ ap (λ (s : List Station). lineBytes (turnsOf n s (l .draws) k)) from ∙ sym (nothing-refused _ _ (runCauses l) none),
+            did .1 .1
+                ∙ ap (λ (s : List Station). flatMap markBytes (turnsOf n s (l .draws) k) ++ drop (2 * k) (l .marks)) from
+                ∙ sym (nothing-refused _ _ (runCauses l) none),
+          ),
+        ),
+      )
 
 pub run-lowest : RunLowest
 run-lowest l = lowest-given (runCauses l) refl

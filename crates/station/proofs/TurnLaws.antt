@@ -22,7 +22,8 @@ use Rattle.ground.proofs.Choices.{pick-both}
 use Rattle.ground.proofs.Causes.{judged-map}
 use Rattle.message.specs.declared.Message.{Message}
 use Rattle.burst.specs.Frames.{burstOf, burstLength}
-use Rattle.station.specs.Stations.{emptyStation, loaded, drawOk, heldOk, stationOk, loadOf, loadCauses, loadReport, heldSends, sendsOf, sendOf, sendCauses, sendReport, heldMoves, turnCauses, turnOf, isDone, turnReport, turnBy}
+use Rattle.station.specs.Stations.{emptyStation, loaded, drawOk, heldOk, stationOk, loadOf, loadCauses, loadReport, heldSends, sendsOf, sendOf}
+use Rattle.station.specs.Stations.{sendCauses, sendReport, heldMoves, turnCauses, turnOf, isDone, turnReport, turnBy}
 use Rattle.station.specs.declared.Held.{Held}
 use Rattle.station.specs.declared.Held.the-variants.{Empty, Holds}
 use Rattle.station.specs.declared.Loading.{Loading}
@@ -177,7 +178,9 @@ pub turn-promise : {o : Turn} (s : Station) (heard draw : ℕ) → o ≡ turnOf 
     × (turnReport (o .answer) ≡ judged (turnCauses s heard draw) (reports (isDone (heldMoves (s .held) s heard draw .answer) ∷ [])) refuses)
 unfolding turnOf
 turn-promise s heard draw e =
-    let report : Turn → Report Bool = λ o. turnReport (o .answer) in
-    (e, ap report e
-    ∙ judged-map report _ _ (turnCauses s heard draw)
-    ∙ ap (λ (x : Report Bool). judged (turnCauses s heard draw) x refuses) (held-reports (s .held) s heard draw))
+    let report : Turn → Report Bool = λ o. turnReport (o .answer) in (
+      e,
+      ap report e
+          ∙ judged-map report _ _ (turnCauses s heard draw)
+          ∙ ap (λ (x : Report Bool). judged (turnCauses s heard draw) x refuses) (held-reports (s .held) s heard draw),
+    )

@@ -12,7 +12,8 @@ ghost use Rattle.ground.specs.Refusals.{judged, reports, refuses, refusalNumber
 ghost use Rattle.message.specs.Messages.{messageOk};
 ghost use Rattle.burst.specs.Frames.{bitsOf, pairsOf, burstOf, burstLength};
 ghost use Rattle.station.specs.declared.Held.the-variants.{Holds};
-ghost use Rattle.station.specs.Stations.{emptyStation, drawOk, stationOk, loadOf, loadReport, loadCauses, sendsOf, sendOf, sendReport, sendCauses, idleOf, turnBy, heldMoves, isDone, turnOf, turnReport, turnCauses};
+ghost use Rattle.station.specs.Stations.{emptyStation, drawOk, stationOk, loadOf, loadReport, loadCauses, sendsOf, sendOf, sendReport, sendCauses};
+ghost use Rattle.station.specs.Stations.{idleOf, turnBy, heldMoves, isDone, turnOf, turnReport, turnCauses};
 
 pub mod bench;
 
@@ -274,7 +275,8 @@ pub(crate) fn moves(m: Message, s: Station, sent: u8, heard: u8, draw: u8) -> Mo
 // One half-cycle of a station, with what it heard and a draw.
 pub fn advance(s: Station, heard: u8, draw: u8) -> Turn
     ensures answer { λ o. ⌜ o ≡ turnOf s heard draw ⌝ }
-    ensures report { λ o. ⌜ turnReport (o .answer) ≡ judged (turnCauses s heard draw) (reports (isDone (heldMoves (s .held) s heard draw .answer) ∷ [])) refuses ⌝ }
+    ensures report { λ o. ⌜ turnReport (o .answer)
+        ≡ judged (turnCauses s heard draw) (reports (isDone (heldMoves (s .held) s heard draw .answer) ∷ [])) refuses ⌝ }
 {
     if 1 < heard {
         return Turn {
