@@ -5,17 +5,16 @@
 --     bytes-said                      the data and the command of a message read from bytes are bytes
 --     calls-drawn, turns-kept         every call has its draws; what the turns answer is what the moments keep
 --     exported-run                    ExportedRun
-use mathlib.Core.Path.{_≡_, refl, sym, ap, ap₂, subst, _∙_}
-use mathlib.Core.Bool.{Bool, true, false, _&&_, and-eq-true-iff}
+use mathlib.Core.Path.{_≡_, refl, sym, ap, subst, _∙_}
+use mathlib.Core.Bool.{Bool, true, false, and-eq-true-iff}
 use mathlib.Core.List.{List, [], _∷_, _++_, map, flatMap, reverse, reverse-cons, append-nil, append-assoc}
 use Prim.Native.Nat.{ℕ, zero, suc, _+_, _*_, _/_, _≤_, _<_}
-use native.Mathlib.Nat.{le-refl, le-trans, not-suc-le-zero, le-of-suc-le-suc, mul-suc, mul-le-mul-left}
+use native.Mathlib.Nat.{le-refl, not-suc-le-zero, le-of-suc-le-suc, mul-suc}
 use native.Mathlib.Omega.{arith}
 use borrow.Author.Tests.{leb-true, eqb-true}
-use lib.Dec.{eqb, leb}
-use lib.ListN.{length, getD, take, drop, replicate, length-append, length-drop, length-replicate, List·getD-append}
+use lib.Dec.{eqb}
+use lib.ListN.{length, getD, drop, replicate, length-append, length-drop, List·getD-append}
 use lib.Seq.{drop-drop, getD-drop, take-length, length-take-le}
-use Rattle.ground.specs.Choice.{pick}
 use Rattle.ground.specs.Refusals.{Cause, unless, judged, numberGiven}
 use Rattle.ground.specs.declared.Refusal.{Refusal}
 use Rattle.ground.specs.declared.Refusal.the-variants as refusal
@@ -39,12 +38,12 @@ use Rattle.wire.specs.Messages.{takenMessage, functionFrom, messageFrom, messag
 use Rattle.wire.specs.declared.MessageRead.{MessageRead}
 use Rattle.wire.specs.declared.MessageRead.the-variants.{Message as Says, Refused as NoMessage}
 use Rattle.wire.proofs.MessageLaws.{messages-read-back}
-use Rattle.bench_run.specs.Calls.{Answered, Moment, atStart, hears, call, run, Drawn}
+use Rattle.bench_run.specs.Calls.{Moment, hears, call, run, Drawn}
 use Rattle.bench_run.specs.BenchRuns.{saysMessage, allSay, loadedBy, benchFrom, slotsFrom, drawsOf, callsOf, momentAfter, turnsOf, Lent, runCauses, slotsIn}
 use Rattle.bench_run.specs.BenchRuns.{momentIn, turnsIn, runAnswer, linesAfter, marksAfter}
 use Rattle.bench_run.proofs.LoadLaws.{bench-length}
 use Rattle.bench_laws.specs.Demand3.{Start}
-use Rattle.bench_laws.specs.ExportedRun.{answeredBy, keptOf, Exported, ExportedRun}
+use Rattle.bench_laws.specs.ExportedRun.{answeredBy, keptOf, ExportedRun}
 use Rattle.bench_laws.proofs.WholeList.{demand-3}
 
 -- ---- nothing is refused

@@ -4,8 +4,7 @@ use Prim.Native.Nat.{_*_, _/_, _%_, _<_}
 use native.Mathlib.Omega.{arith}
 use borrow.Author.Tests.{ne-eqb, le-leb, lt-leb}
 use lib.ListN.{length}
-use Rattle.ground.specs.Refusals.{judged, numberGiven, refusalNumber}
-use Rattle.ground.specs.declared.CountAnswer.the-variants.{Refused}
+use Rattle.ground.specs.Refusals.{judged, refusalNumber}
 use Rattle.ground.specs.declared.Refusal.the-variants as refusal
 use Rattle.ground.proofs.Causes.{ladder}
 use Rattle.bench_run.specs.BenchRuns.{Lent, lent, runCauses, runAnswer}
