@@ -63,11 +63,11 @@ pub struct Turn {
 }
 
 // The numbers of a station with a message after a half-cycle. Where it is done it has sent its whole burst, and is empty.
-pub struct Move {
-    pub done: bool,
-    pub wait: u8,
-    pub count: u8,
-    pub place: u8,
+pub(crate) struct Move {
+    done: bool,
+    wait: u8,
+    count: u8,
+    place: u8,
 }
 
 // A station that has counted nothing and sent nothing.
@@ -96,6 +96,7 @@ pub fn draw_ok(draw: u8) -> bool
     (8 <= draw) & (draw <= 10)
 }
 
+// How many half-cycles a message's burst has.
 fn burst_length(m: Message) -> u8
     ensures { λ r. ⌜ r ≡ burstLength m ⌝ }
 {
