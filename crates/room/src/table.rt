@@ -1,19 +1,23 @@
-// The lent bytes of a module table: whether they keep its rules, and an act run on the records of a house.
-use record::Act;
+// The lent bytes of a module table: whether they keep its rules, and an act run on the records of a house. What stands here takes a
+// table of the right length for granted.
+use plan::Act;
 use record::HEARD_AT;
 use record::HOUSES;
+use record::House;
 use record::RECORD_BYTES;
 use record::RECORDS;
 use record::Record;
 use record::TABLE_BYTES;
 use record::UNITS;
+use record::house_valid;
+use record::step::house_after;
 use record::step::step;
 ghost use mathlib.Core.Path.{_≡_};
 ghost use Prim.Native.Nat.{_<_};
 ghost use lib.ListN.{length};
-ghost use Rattle.record.specs.Layout.{RECORDS, HOUSES, UNITS, TABLE-BYTES, recordAt, put, heardAt};
-ghost use Rattle.record.specs.ModuleTable.{recordOk, recordsOk, housesOk, tableOk, stepHouse, changed};
-ghost use Rattle.table.specs.Lent.{Stepped, ranIn};
+ghost use Rattle.record.specs.Layout.{RECORDS, HOUSES, UNITS, TABLE-BYTES, recordAt, put, houseAt, putHouse};
+ghost use Rattle.record.specs.ModuleTable.{recordOk, houseOk, recordsOk, housesOk, tableOk, stepHouse, runAct, changed};
+ghost use Rattle.room.specs.Lent.{Stepped};
 
 // Record i of a table.
 fn load(t: &[u8], i: usize) -> Record
@@ -49,6 +53,23 @@ fn store(t: &mut [u8], i: usize, r: Record)
     t[at + 7] = r.preset3;
 }
 
+// The bytes of a house beside its records': read here, and written below, and nowhere else.
+fn house_at(t: &[u8], house: usize) -> House
+    requires { ⌜ (length (now t) ≡ TABLE-BYTES) × (house < HOUSES) ⌝ }
+    ensures { λ r. ⌜ r ≡ houseAt (now (t .entry)) house ⌝ }
+{
+    House {
+        heard: t[HEARD_AT + house],
+    }
+}
+
+fn put_house(t: &mut [u8], house: usize, own: House)
+    requires { ⌜ (length (now t) ≡ TABLE-BYTES) × (house < HOUSES) ⌝ }
+    ensures { λ _. ⌜ now (t .exit) ≡ putHouse (now (t .entry)) house own ⌝ }
+{
+    t[HEARD_AT + house] = own.heard;
+}
+
 // Whether record i of a table keeps the rules.
 fn record_ok(t: &[u8], i: usize) -> bool
     requires { ⌜ (length (now t) ≡ TABLE-BYTES) × (i < RECORDS) ⌝ }
@@ -81,7 +102,16 @@ fn records_ok(t: &[u8]) -> bool
     ok
 }
 
-// Whether each "command heard" byte is 0 or 1.
+// Whether a house's own bytes keep the rules.
+fn house_ok(t: &[u8], house: usize) -> bool
+    requires { ⌜ (length (now t) ≡ TABLE-BYTES) × (house < HOUSES) ⌝ }
+    ensures { λ r. ⌜ r ≡ houseOk (houseAt (now (t .entry)) house) ⌝ }
+{
+    let own = house_at(t, house);
+    house_valid(own.heard)
+}
+
+// Whether each house's own bytes do.
 fn houses_ok(t: &[u8]) -> bool
     requires { ⌜ length (now t) ≡ TABLE-BYTES ⌝ }
     ensures { λ r. ⌜ r ≡ housesOk HOUSES (now (t .entry)) ⌝ }
@@ -89,14 +119,14 @@ fn houses_ok(t: &[u8]) -> bool
     let mut ok = true;
     let mut h = 0;
     while h < HOUSES {
-        ok = ok & (t[HEARD_AT + h] <= 1);
+        ok = ok & house_ok(t, h);
         h += 1;
     }
     ok
 }
 
 // Whether the bytes are a table that keeps the rules.
-pub fn valid(t: &[u8]) -> bool
+pub(crate) fn valid(t: &[u8]) -> bool
     ensures { λ r. ⌜ r ≡ tableOk (now (t .entry)) ⌝ }
 {
     if t.len() != TABLE_BYTES {
@@ -105,52 +135,39 @@ pub fn valid(t: &[u8]) -> bool
     records_ok(t) & houses_ok(t)
 }
 
-// The "command heard" byte of a house, and 0 past the end of the bytes.
-pub fn heard(t: &[u8], house: u8) -> u8
-    ensures { λ r. ⌜ r ≡ heardAt (now (t .entry)) house ⌝ }
-{
-    let at = HEARD_AT + house as usize;
-    if at < t.len() { t[at] } else { 0 }
-}
-
 // Steps record i of a table, as that of unit n, and answers 1 where its level changed.
-fn step_at(t: &mut [u8], i: usize, act: Act, n: u8) -> usize
+fn step_at(t: &mut [u8], i: usize, act: Act, own: House, n: u8) -> usize
     requires { ⌜ (length (now t) ≡ TABLE-BYTES) × (i < RECORDS) ⌝ }
-    ensures { λ r. ⌜ Stepped act n i (now (t .entry)) (now (t .exit)) r ⌝ }
+    ensures { λ r. ⌜ Stepped act own n i (now (t .entry)) (now (t .exit)) r ⌝ }
 {
     let before = load(t, i);
-    let after = step(act, n, before);
+    let after = step(act, own, n, before);
     store(t, i, after);
     if before.level == after.level { 0 } else { 1 }
 }
 
 // Steps the sixteen records of a house, and answers how many levels changed.
-fn step_house(t: &mut [u8], house: u8, act: Act) -> usize
+fn step_house(t: &mut [u8], house: usize, act: Act, own: House) -> usize
     requires { ⌜ (length (now t) ≡ TABLE-BYTES) × (house < HOUSES) ⌝ }
-    ensures { λ r. ⌜ (now (t .exit) ≡ stepHouse UNITS act house (now (t .entry))) × (r ≡ changed RECORDS (now (t .entry)) (now (t .exit))) ⌝ }
+    ensures { λ r. ⌜ (now (t .exit) ≡ stepHouse UNITS act own house (now (t .entry))) × (r ≡ changed RECORDS (now (t .entry)) (now (t .exit))) ⌝ }
 {
-    let first = house as usize * UNITS;
+    let first = house * UNITS;
     let mut count: usize = 0;
     let mut n: usize = 0;
     while n < UNITS {
-        count = count + step_at(t, first + n, act, n as u8);
+        count = count + step_at(t, first + n, act, own, n as u8);
         n += 1;
     }
     count
 }
 
-// Runs an act for a house: its sixteen records, and then its "command heard" byte. Answers how many levels changed. Bytes that are
-// no table, and a house above 15, are left as they are.
-pub fn run_act(t: &mut [u8], house: u8, act: Act, heard: u8) -> usize
-    ensures { λ r. ⌜ (now (t .exit) ≡ ranIn act house heard (now (t .entry))) × (r ≡ changed RECORDS (now (t .entry)) (now (t .exit))) ⌝ }
+// Runs an act for a house: its sixteen records, and then its own bytes. Answers how many levels changed.
+pub(crate) fn run_act(t: &mut [u8], house: usize, act: Act) -> usize
+    requires { ⌜ (length (now t) ≡ TABLE-BYTES) × (house < HOUSES) ⌝ }
+    ensures { λ r. ⌜ (now (t .exit) ≡ runAct act house (now (t .entry))) × (r ≡ changed RECORDS (now (t .entry)) (now (t .exit))) ⌝ }
 {
-    if t.len() != TABLE_BYTES {
-        return 0;
-    }
-    if house as usize >= HOUSES {
-        return 0;
-    }
-    let count = step_house(t, house, act);
-    t[HEARD_AT + house as usize] = heard;
+    let own = house_at(t, house);
+    let count = step_house(t, house, act, own);
+    put_house(t, house, house_after(act, own));
     count
 }

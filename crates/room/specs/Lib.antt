@@ -1,0 +1,4 @@
+pub mod Rooms
+pub mod Lent
+pub mod Routes
+pub mod Statements
