@@ -4,12 +4,12 @@
 --     length-put, byte-put-own, byte-put-apart          the length and the bytes after a record is put
 --     record-ext                                        records whose bytes agree are equal
 --     record-put-own, record-put-other                  the records after a record is put
---     record-set-past, heard-put                        records and house bytes do not meet
+--     length-put-house, record-put-house, house-put-own, house-put-other, house-put       records and houses' own bytes do not meet
 --     changed-ext, changed-none                         the count looks at levels only; it is 0 where nothing changed
 --     changed-put                                       putting a record that was not changed before adds 0 or 1
 --     length-step, step-other                           a house's records stepped leave the others as they were
 --     turn-first, turn-length, turn-next, turn-last     a turn of the loop over a house's records
---     ran, ran-not                                      an act run on a table, and on other bytes
+--     ran                                               an act run on a table
 use mathlib.Core.Path.{_≡_, refl, sym, ap, ap₂, subst, _∙_}
 use mathlib.Core.Bool.{true, false}
 use mathlib.Core.List.{List, [], _∷_}
@@ -24,11 +24,12 @@ use lib.Dec.{eqb}
 use lib.ListN.{length, getD, set, length-set}
 use lib.Seq.{sets, length-sets, getD-set-same, getD-set-other}
 use Rattle.ground.specs.Choice.{pick}
-use Rattle.record.specs.Layout.{RECORD-BYTES, UNITS, HOUSES, RECORDS, HEARD-AT, TABLE-BYTES, recordAt, bytesOf, put}
-use Rattle.record.specs.ModuleTable.{stepRecord, stepHouse, runAct, changed}
-use Rattle.table.specs.Lent.{Stepped, inTable, ranIn}
+use Rattle.plan.specs.declared.Act.{Act}
+use Rattle.record.specs.Layout.{RECORD-BYTES, UNITS, HOUSES, RECORDS, HEARD-AT, TABLE-BYTES, recordAt, bytesOf, put, houseAt, putHouse}
+use Rattle.record.specs.ModuleTable.{stepRecord, stepHouse, houseAfter, runAct, changed}
 use Rattle.record.specs.declared.Record.{Record}
-use Rattle.record.specs.declared.Act.{Act}
+use Rattle.record.specs.declared.House.{House}
+use Rattle.room.specs.Lent.{Stepped}
 
 -- ---- a run of stores
 
@@ -109,13 +110,31 @@ pub record-put-other : (t : List ℕ) (i j : ℕ) (r : Record) → (i ≡ j → 
 record-put-other t i j r ne =
     record-ext (put t i r) t j j (λ k hk. byte-put-apart t i (j * RECORD-BYTES + k) r 0 (apart i j k ne hk))
 
--- a byte past the records is none of a record's
-pub record-set-past : (t : List ℕ) (i j x : ℕ) → i < RECORDS → HEARD-AT ≤ j → recordAt (set t j x) i ≡ recordAt t i
-record-set-past t i j x hi hj =
-    record-ext (set t j x) t i i (λ k hk. getD-set-other t j (i * RECORD-BYTES + k) x 0 (λ e. omega arith))
+-- ---- a house's own bytes
 
-pub heard-put : (t : List ℕ) (i j : ℕ) (r : Record) (d : ℕ) → i < RECORDS → HEARD-AT ≤ j → getD (put t i r) j d ≡ getD t j d
-heard-put t i j r d hi hj = byte-put-apart t i j r d (inr (omega arith))
+pub length-put-house : (t : List ℕ) (h : ℕ) (own : House) → length (putHouse t h own) ≡ length t
+unfolding putHouse
+length-put-house t h own = length-set t (HEARD-AT + h) (own .heard)
+
+pub byte-put-house : (t : List ℕ) (h k : ℕ) (own : House) → (k ≡ HEARD-AT + h → ⊥) → getD (putHouse t h own) k 0 ≡ getD t k 0
+unfolding putHouse
+byte-put-house t h k own other = getD-set-other t (HEARD-AT + h) k (own .heard) 0 other
+
+pub record-put-house : (t : List ℕ) (i h : ℕ) (own : House) → i < RECORDS → recordAt (putHouse t h own) i ≡ recordAt t i
+record-put-house t i h own hi =
+    record-ext (putHouse t h own) t i i (λ k hk. byte-put-house t h (i * RECORD-BYTES + k) own (λ e. omega arith))
+
+pub house-put-own : (t : List ℕ) (h : ℕ) (own : House) → HEARD-AT + h < length t → houseAt (putHouse t h own) h ≡ own
+unfolding houseAt putHouse
+house-put-own t h own room = rw (getD-set-same t (HEARD-AT + h) (own .heard) 0 room)
+
+pub house-put-other : (t : List ℕ) (h g : ℕ) (own : House) → (g ≡ h → ⊥) → houseAt (putHouse t h own) g ≡ houseAt t g
+unfolding houseAt
+house-put-other t h g own other = rw (byte-put-house t h (HEARD-AT + g) own (λ e. other (omega arith)))
+
+pub house-put : (t : List ℕ) (i h : ℕ) (r : Record) → i < RECORDS → houseAt (put t i r) h ≡ houseAt t h
+unfolding houseAt
+house-put t i h r hi = rw (byte-put-apart t i (HEARD-AT + h) r 0 (inr (omega arith)))
 
 -- ---- the count of changed levels
 
@@ -160,67 +179,65 @@ changed-put (suc n) i b t r hi hl e = go (decLt i n) (λ h. changed-put n i b t 
 
 -- ---- the records of a house
 
-pub length-step : (n : ℕ) (a : Act) (h : ℕ) (t : List ℕ) → length (stepHouse n a h t) ≡ length t
-unfolding stepHouse
-length-step zero a h t = refl
-length-step (suc n) a h t =
-    let s = stepHouse n a h t in
-    length-put s (h * UNITS + n) (stepRecord a n (recordAt s (h * UNITS + n))) ∙ length-step n a h t
-
-pub step-other : (n : ℕ) (a : Act) (h : ℕ) (t : List ℕ) (j : ℕ) → ((k : ℕ) → k < n → h * UNITS + k ≡ j → ⊥) → recordAt (stepHouse n a h t) j ≡ recordAt t j
-unfolding stepHouse
-step-other zero a h t j ne = refl
-step-other (suc n) a h t j ne =
-    let s = stepHouse n a h t in
-    record-put-other s (h * UNITS + n) j (stepRecord a n (recordAt s (h * UNITS + n))) (ne n (omega arith))
-    ∙ step-other n a h t j (λ k hk. ne k (omega arith))
-
--- after n turns of the loop over a house's records
-pub record Turn (a : Act) (h : ℕ) (b t : List ℕ) (count n : ℕ) : Type 0 where
-  pub room : n ≤ UNITS
-  pub table : t ≡ stepHouse n a h b
-  pub counted : count ≡ changed RECORDS b t
-  pub few : count ≤ n
-
-pub turn-first : (a : Act) (h : ℕ) (b : List ℕ) → Turn a h b b 0 0
-unfolding stepHouse
-turn-first a h b = record { room = omega arith; table = refl; counted = sym (changed-none RECORDS b); few = omega arith }
-
-pub turn-length : (a : Act) (h : ℕ) (b t : List ℕ) (count n : ℕ) → Turn a h b t count n → length t ≡ length b
-turn-length a h b t count n now = ap length (now .table) ∙ length-step n a h b
-
-pub turn-last : (a : Act) (h : ℕ) (b t : List ℕ) (count n : ℕ) → Turn a h b t count n → UNITS ≤ n → (t ≡ stepHouse UNITS a h b) × (count ≡ changed RECORDS b t)
-turn-last a h b t count n now done =
-    let end : n ≡ UNITS = omega (arith, now .room) in
-    (now .table ∙ ap (λ (k : ℕ). stepHouse k a h b) end, now .counted)
-
-module _ (a : Act) (h : ℕ) (b t u : List ℕ) (count n answer : ℕ) (whole : length b ≡ TABLE-BYTES) (house : h < HOUSES) (more : n < UNITS) where
-  pub turn-next : Turn a h b t count n → Stepped a n (h * UNITS + n) t u answer → Turn a h b u (count + answer) (n + 1)
+module _ (a : Act) (own : House) (h : ℕ) (b : List ℕ) where
+  pub length-step : (n : ℕ) → length (stepHouse n a own h b) ≡ length b
   unfolding stepHouse
-  turn-next old new =
-      let i = h * UNITS + n in
-      let size : length t ≡ TABLE-BYTES = turn-length a h b t count n old ∙ whole in
-      let ahead : recordAt b i ≡ recordAt t i = sym (ap (λ (l : List ℕ). recordAt l i) (old .table) ∙ step-other n a h b i (λ k hk e. omega arith)) in
-      let total : changed RECORDS b u ≡ changed RECORDS b t + pick (eqb (recordAt t i .level) (stepRecord a n (recordAt t i) .level)) 0 1 =
-      ap (λ (l : List ℕ). changed RECORDS b l) (new .table)
-      ∙ changed-put RECORDS i b t (stepRecord a n (recordAt t i)) (omega arith) (omega arith) ahead in
-      record {
-        room = omega arith;
-        table = new .table ∙ rw (add-one, ← old.table);
-        counted = sym (total ∙ ap₂ _+_ (sym (old .counted)) (sym (new .count)));
-        few = omega (arith, old .few, new .small);
-      }
+  length-step zero = refl
+  length-step (suc n) =
+      let s = stepHouse n a own h b in
+      length-put s (h * UNITS + n) (stepRecord a own n (recordAt s (h * UNITS + n))) ∙ length-step n
+
+  pub step-other : (n j : ℕ) → ((k : ℕ) → k < n → h * UNITS + k ≡ j → ⊥) → recordAt (stepHouse n a own h b) j ≡ recordAt b j
+  unfolding stepHouse
+  step-other zero j ne = refl
+  step-other (suc n) j ne =
+      let s = stepHouse n a own h b in
+      record-put-other s (h * UNITS + n) j (stepRecord a own n (recordAt s (h * UNITS + n))) (ne n (omega arith))
+      ∙ step-other n j (λ k hk. ne k (omega arith))
+
+  -- after n turns of the loop over a house's records
+  pub record Turn (t : List ℕ) (count n : ℕ) : Type 0 where
+    pub room : n ≤ UNITS
+    pub table : t ≡ stepHouse n a own h b
+    pub counted : count ≡ changed RECORDS b t
+    pub few : count ≤ n
+
+  pub turn-first : Turn b 0 0
+  unfolding stepHouse
+  turn-first = record { room = omega arith; table = refl; counted = sym (changed-none RECORDS b); few = omega arith }
+
+  module _ (t : List ℕ) (count n : ℕ) (old : Turn t count n) where
+    pub turn-length : length t ≡ length b
+    turn-length = ap length (old .table) ∙ length-step n
+
+    pub turn-last : UNITS ≤ n → (t ≡ stepHouse UNITS a own h b) × (count ≡ changed RECORDS b t)
+    turn-last done =
+        let end : n ≡ UNITS = omega (arith, old .room) in
+        (old .table ∙ ap (λ (k : ℕ). stepHouse k a own h b) end, old .counted)
+
+    pub turn-next : (u : List ℕ) (answer : ℕ) → length b ≡ TABLE-BYTES → h < HOUSES → n < UNITS
+        → Stepped a own n (h * UNITS + n) t u answer → Turn u (count + answer) (n + 1)
+    unfolding stepHouse
+    turn-next u answer whole house more new =
+        let i = h * UNITS + n in
+        let size : length t ≡ TABLE-BYTES = turn-length ∙ whole in
+        let ahead : recordAt b i ≡ recordAt t i = sym (ap (λ (l : List ℕ). recordAt l i) (old .table) ∙ step-other n i (λ k hk e. omega arith)) in
+        let total : changed RECORDS b u ≡ changed RECORDS b t + pick (eqb (recordAt t i .level) (stepRecord a own n (recordAt t i) .level)) 0 1 =
+        ap (λ (l : List ℕ). changed RECORDS b l) (new .table)
+        ∙ changed-put RECORDS i b t (stepRecord a own n (recordAt t i)) (omega arith) (omega arith) ahead in
+        record {
+          room = omega arith;
+          table = new .table ∙ rw (add-one, ← old.table);
+          counted = sym (total ∙ ap₂ _+_ (sym (old .counted)) (sym (new .count)));
+          few = omega (arith, old .few, new .small);
+        }
 
 -- ---- an act run
 
-pub ran-not : (a : Act) (h heard : ℕ) (t : List ℕ) → inTable h t ≡ false → (t ≡ ranIn a h heard t) × (0 ≡ changed RECORDS t t)
-unfolding ranIn
-ran-not a h heard t e = (rw e, sym (changed-none RECORDS t))
-
-pub ran : (a : Act) (h heard : ℕ) (t u : List ℕ) (count : ℕ) → inTable h t ≡ true → (u ≡ stepHouse UNITS a h t) × (count ≡ changed RECORDS t u)
-    → (set u (HEARD-AT + h) heard ≡ ranIn a h heard t) × (count ≡ changed RECORDS t (set u (HEARD-AT + h) heard))
-unfolding ranIn runAct
-ran a h heard t u count e stepped = (
-  rw (e, stepped .0),
-  stepped .1 ∙ sym (changed-ext RECORDS t (set u (HEARD-AT + h) heard) u (λ i hi. record-set-past u i (HEARD-AT + h) heard hi (omega arith))),
+pub ran : (a : Act) (own next : House) (h : ℕ) (t u v : List ℕ) (count : ℕ) → own ≡ houseAt t h → next ≡ houseAfter a own
+    → (u ≡ stepHouse UNITS a own h t) × (count ≡ changed RECORDS t u) → v ≡ putHouse u h next → (v ≡ runAct a h t) × (count ≡ changed RECORDS t v)
+unfolding runAct
+ran a own next h t u v count mine after stepped put = (
+  put ∙ rw (stepped .0, after, mine),
+  stepped .1 ∙ sym (changed-ext RECORDS t v u (λ i hi. ap (λ (l : List ℕ). recordAt l i) put ∙ record-put-house u i h next hi)),
 )

@@ -1,48 +1,47 @@
--- `apply` meets its contract: the three tests are made in the order of their numbers, and past them the plan decides.
-use mathlib.Core.Path.{refl, sym, _∙_}
-use borrow.Author.Tests.{eq-eqb, ne-eqb, not-true, not-false}
-use Rattle.apply.specs.Applied.{numberFor}
-use Rattle.apply.proofs.ApplyLaws.{refused, carried}
 use borrow.Author.Needs.{needs}
-use Rattle.apply.proofs.apply.Statement.{statement}
-use Rattle.apply.proofs.apply.Tie as tie
+use Rattle.room.proofs.apply.Statement.{statement}
+use Rattle.room.proofs.apply.Tie as tie
+use Rattle.room.proofs.apply.Reads as reads
+use Rattle.room.proofs.apply.Lts as lts
+use Rattle.message.proofs.valid.Reads as valid-reads
+use Rattle.room.proofs.apply_valid.Reads as apply-valid-reads
+use Rattle.room.proofs.table.valid.Reads as table-valid-reads
 
+-- src/lib.rt:54:9
 returns : tie.Need-returns
-unfolding numberFor
-returns c = refused _ _ _ (simp (ne-eqb _ _ (c .if1 .taken))) refl
+returns c = ?
 
+-- src/lib.rt:56:9
 valid-requires : tie.Need-valid-requires
 valid-requires c κs = search needs
 
+-- src/lib.rt:57:9
 returns-2 : tie.Need-returns-2
-unfolding numberFor
-returns-2 c = refused _ _ _ (simp (eq-eqb _ _ (c .before .before .if1 .left), sym (c .before .valid .ensures) ∙ not-true _ (c .if2 .taken))) refl
+returns-2 c = ?
 
+-- src/lib.rt:59:9
 valid-requires-2 : tie.Need-valid-requires-2
 valid-requires-2 c κs = search needs
 
+-- src/lib.rt:60:9
 same-length : tie.Need-same-length
 same-length c = search needs
 
+-- src/lib.rt:60:9
 returns-3 : tie.Need-returns-3
-unfolding numberFor
-returns-3 c =
-    let first = c .before .before .before in
-    refused _ _ _ (simp (eq-eqb _ _ (first .before .before .if1 .left), sym (first .before .valid .ensures) ∙ not-false _ (first .if2 .left), sym (c .before .valid2 .ensures) ∙ not-true _ (c .if3 .taken))) refl
+returns-3 c = ?
 
-carry-requires : tie.Need-carry-requires
-carry-requires c κs =
-    let first = c .before .before .before .before in
-    (first .before .before .if1 .left, sym (first .before .valid .ensures) ∙ not-false _ (first .if2 .left))
+-- src/lib.rt:62:5
+apply-valid-requires : tie.Need-apply-valid-requires
+apply-valid-requires c κs = ?
 
+-- src/lib.rt:48:1
 same-length-2 : tie.Need-same-length-2
 same-length-2 c = search needs
 
+-- src/lib.rt:48:1
 returns-4 : tie.Need-returns-4
-returns-4 c =
-    let tested = c .before .before .before .before in
-    let first = tested .before .before .before in
-    carried _ _ _ _ (eq-eqb _ _ (first .before .before .if1 .left)) (sym (first .before .valid .ensures) ∙ not-false _ (first .if2 .left)) (sym (tested .before .valid2 .ensures) ∙ not-false _ (tested .if3 .left)) (c .before .before .carry .ensures)
+returns-4 c = ?
 
 pub apply-spec : {M : Type 1} → statement M
 apply-spec =
@@ -54,6 +53,6 @@ apply-spec =
     valid-requires-2
     same-length
     returns-3
-    carry-requires
+    apply-valid-requires
     same-length-2
     returns-4)

@@ -1,61 +1,58 @@
--- `carry` meets its contract: the plan is the one for the house byte that was read, and it runs or it does not.
-use mathlib.Core.Path.{sym, _∙_}
-use Rattle.apply.proofs.ApplyLaws.{ran-carried, not-carried}
 use borrow.Author.Needs.{needs}
-use Rattle.apply.proofs.carry.Statement.{statement}
-use Rattle.apply.proofs.carry.Tie as tie
+use Rattle.room.proofs.apply_valid.Statement.{statement}
+use Rattle.room.proofs.apply_valid.Tie as tie
+use Rattle.room.proofs.apply_valid.Reads as reads
+use Rattle.room.proofs.apply_valid.Lts as lts
+use Rattle.plan.proofs.house_of.Reads as house-of-reads
+use Rattle.plan.proofs.plan_for.Reads as plan-for-reads
+use Rattle.room.proofs.table.run_act.Reads as run-act-reads
 
-house-of-requires : tie.Need-house-of-requires
-house-of-requires c κs = search needs
-
-heard-requires : tie.Need-heard-requires
-heard-requires c κs = search needs
-
+-- src/lib.rt:37:11
 plan-for-requires : tie.Need-plan-for-requires
 plan-for-requires c κs = search needs
 
+-- src/lib.rt:38:19
 enum-known-act : tie.Need-enum-known-act
 enum-known-act c = search needs
 
-heard-after-requires : tie.Need-heard-after-requires
-heard-after-requires c κs = search needs
+-- src/lib.rt:39:41
+house-of-requires : tie.Need-house-of-requires
+house-of-requires c κs = search needs
 
+-- src/lib.rt:39:41
+cast-run-act : tie.Need-cast-run-act
+cast-run-act c = search needs
+
+-- src/lib.rt:39:17
 run-act-requires : tie.Need-run-act-requires
-run-act-requires c κs = search needs
+run-act-requires c κs = ?
 
-enum-told : tie.Need-enum-told
-enum-told c = search needs
+-- src/lib.rt:42:23
+enum-known-why : tie.Need-enum-known-why
+enum-known-why c = search needs
 
+-- src/lib.rt:32:1
 same-length : tie.Need-same-length
 same-length c = search needs
 
+-- src/lib.rt:32:1
 returns : tie.Need-returns
-returns c =
-    let matched = c .before .before .before .before .before .before in
-    let planned = matched .before .before in
-    let began = planned .before .before .before .before .before in
-    ran-carried _ _ _ _ (planned .before .before .before .house-of .ensures) (planned .before .heard .ensures) _ _ _ _ (began .pre .0) (began .pre .1) (sym (planned .plan-for .ensures) ∙ matched .act .given .1) (c .before .before .before .heard-after .ensures) (c .before .before .run-act .ensures)
+returns c = ?
 
-same-length-2 : tie.Need-same-length-2
-same-length-2 c = search needs
-
+-- src/lib.rt:32:1
 returns-2 : tie.Need-returns-2
-returns-2 c =
-    let planned = c .before .before in
-    not-carried _ _ _ _ (planned .before .before .before .house-of .ensures) (planned .before .heard .ensures) (sym (planned .plan-for .ensures) ∙ c .enum-told .given .1)
+returns-2 c = ?
 
-pub carry-spec : {M : Type 1} → statement M
-carry-spec =
+pub apply-valid-spec : {M : Type 1} → statement M
+apply-valid-spec =
     tie.close
     (tie.spec
-    house-of-requires
-    heard-requires
     plan-for-requires
     enum-known-act
-    heard-after-requires
+    house-of-requires
+    cast-run-act
     run-act-requires
-    enum-told
+    enum-known-why
     same-length
     returns
-    same-length-2
     returns-2)

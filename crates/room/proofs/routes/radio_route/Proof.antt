@@ -1,89 +1,59 @@
--- `radio_route` meets its contract: the table is judged before the code is read, and what the reader names is a valid command.
-use mathlib.Core.Path.{refl, sym, ap, _∙_}
-use borrow.Author.Tests.{eq-eqb, ne-eqb, not-true, not-false}
-use Rattle.message.specs.Numbers.{TABLE, RECORD, RF-LENGTH, COMPLEMENT, CODE}
-use Rattle.radio.specs.Answers.{answerOfRead}
-use Rattle.radio.proofs.AnswerLaws.{read-as}
-use Rattle.routes.specs.Routes.{judged, radioNumber}
-use Rattle.routes.proofs.RouteLaws.{radio-refused, radio-obeyed}
 use borrow.Author.Needs.{needs}
-use Rattle.routes.proofs.radio_route.Statement.{statement}
-use Rattle.routes.proofs.radio_route.Tie as tie
+use Rattle.room.proofs.routes.radio_route.Statement.{statement}
+use Rattle.room.proofs.routes.radio_route.Tie as tie
+use Rattle.room.proofs.routes.radio_route.Reads as reads
+use Rattle.room.proofs.routes.radio_route.Lts as lts
+use Rattle.radio.proofs.read.Reads as read-reads
+use Rattle.room.proofs.routes.obey.Reads as obey-reads
+use Rattle.room.proofs.table.valid.Reads as valid-reads
 
+-- src/routes.rt:60:9
 returns : tie.Need-returns
-unfolding radioNumber judged
-returns c = radio-refused (c .before .before .before .args .code .now) (c .before .before .before .args .table .now) TABLE (simp (ne-eqb _ _ (c .if1 .taken))) refl
+returns c = ?
 
+-- src/routes.rt:62:9
 valid-requires : tie.Need-valid-requires
 valid-requires c κs = search needs
 
+-- src/routes.rt:63:9
 same-length : tie.Need-same-length
 same-length c = search needs
 
+-- src/routes.rt:63:9
 returns-2 : tie.Need-returns-2
-unfolding radioNumber judged
-returns-2 c = radio-refused (c .before .before .before .before .before .before .args .code .now) (c .before .before .before .before .before .before .args .table .now) RECORD (simp (eq-eqb _ _ (c .before .before .before .if1 .left), sym (c .before .valid .ensures) ∙ not-true _ (c .if2 .taken))) refl
+returns-2 c = ?
 
+-- src/routes.rt:65:11
 read-requires : tie.Need-read-requires
 read-requires c κs = search needs
 
+-- src/routes.rt:66:28
 enum-known-k : tie.Need-enum-known-k
 enum-known-k c = search needs
 
+-- src/routes.rt:66:51
 obey-requires : tie.Need-obey-requires
-obey-requires c κs =
-    let reads = sym (c .before .before .before .before .read .ensures) ∙ ap answerOfRead (c .before .before .k .given .1) in
-    let k = c .before .before .k .given .0 .0 in
-    let code = c .before .before .before .before .before .before .before .before .before .before .before .args .code .now in
-    (sym (c .before .before .before .before .before .before .valid .ensures) ∙ not-false _ (c .before .before .before .before .before .if2 .left), read-as k code reads .0)
+obey-requires c κs = ?
 
-enum-told : tie.Need-enum-told
-enum-told c = search needs
+-- src/routes.rt:67:28
+enum-known-why : tie.Need-enum-known-why
+enum-known-why c = search needs
 
-enum-told-2 : tie.Need-enum-told-2
-enum-told-2 c = search needs
-
-enum-told-3 : tie.Need-enum-told-3
-enum-told-3 c = search needs
-
+-- src/routes.rt:54:1
 same-length-2 : tie.Need-same-length-2
 same-length-2 c = search needs
 
+-- src/routes.rt:54:1
 returns-3 : tie.Need-returns-3
-returns-3 c =
-    let a = c .before .before .before .before .before .before .before .before .before .before .before .before .before .before .args in
-    radio-obeyed (a .code .now) (a .table .now) (c .before .before .before .before .before .k .given .0 .0) _ (c .before .before .obey .result) (c .before .before .before .before .before .before .before .before .before .before .before .if1 .left)
-    (sym (c .before .before .before .before .before .before .before .before .before .valid .ensures) ∙ not-false _ (c .before .before .before .before .before .before .before .before .if2 .left)) (sym (c .before .before .before .before .before .before .before .read .ensures) ∙ ap answerOfRead (c .before .before .before .before .before .k .given .1)) (c .before .before .obey .ensures)
+returns-3 c = ?
 
+-- src/routes.rt:54:1
 same-length-3 : tie.Need-same-length-3
 same-length-3 c = search needs
 
+-- src/routes.rt:54:1
 returns-4 : tie.Need-returns-4
-unfolding radioNumber judged
-returns-4 c =
-    let a = c .before .before .before .before .before .before .before .before .before .args in
-    let reads = sym (c .before .before .read .ensures) ∙ ap answerOfRead (c .enum-told .given .1) in
-    radio-refused (a .code .now) (a .table .now) RF-LENGTH (simp (eq-eqb _ _ (c .before .before .before .before .before .before .if1 .left), sym (c .before .before .before .before .valid .ensures) ∙ not-false _ (c .before .before .before .if2 .left), reads)) refl
-
-same-length-4 : tie.Need-same-length-4
-same-length-4 c = search needs
-
-returns-5 : tie.Need-returns-5
-unfolding radioNumber judged
-returns-5 c =
-    let a = c .before .before .before .before .before .before .before .before .before .args in
-    let reads = sym (c .before .before .read .ensures) ∙ ap answerOfRead (c .enum-told2 .given .1) in
-    radio-refused (a .code .now) (a .table .now) COMPLEMENT (simp (eq-eqb _ _ (c .before .before .before .before .before .before .if1 .left), sym (c .before .before .before .before .valid .ensures) ∙ not-false _ (c .before .before .before .if2 .left), reads)) refl
-
-same-length-5 : tie.Need-same-length-5
-same-length-5 c = search needs
-
-returns-6 : tie.Need-returns-6
-unfolding radioNumber judged
-returns-6 c =
-    let a = c .before .before .before .before .before .before .before .before .before .args in
-    let reads = sym (c .before .before .read .ensures) ∙ ap answerOfRead (c .enum-told3 .given .1) in
-    radio-refused (a .code .now) (a .table .now) CODE (simp (eq-eqb _ _ (c .before .before .before .before .before .before .if1 .left), sym (c .before .before .before .before .valid .ensures) ∙ not-false _ (c .before .before .before .if2 .left), reads)) refl
+returns-4 c = ?
 
 pub radio-route-spec : {M : Type 1} → statement M
 radio-route-spec =
@@ -96,14 +66,8 @@ radio-route-spec =
     read-requires
     enum-known-k
     obey-requires
-    enum-told
-    enum-told-2
-    enum-told-3
+    enum-known-why
     same-length-2
     returns-3
     same-length-3
-    returns-4
-    same-length-4
-    returns-5
-    same-length-5
-    returns-6)
+    returns-4)

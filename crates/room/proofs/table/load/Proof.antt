@@ -2,8 +2,8 @@
 use mathlib.Core.Path.{refl}
 use Rattle.record.specs.Layout.{recordAt}
 use borrow.Author.Needs.{needs}
-use Rattle.table.proofs.load.Statement.{statement}
-use Rattle.table.proofs.load.Tie as tie
+use Rattle.room.proofs.table.load.Statement.{statement}
+use Rattle.room.proofs.table.load.Tie as tie
 
 mul-at : tie.Need-mul-at
 mul-at c = search needs

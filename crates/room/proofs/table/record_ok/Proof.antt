@@ -1,8 +1,8 @@
 -- `record_ok` meets its contract: the eight bytes are those of the definition's record.
 use Rattle.record.specs.Layout.{recordAt}
 use borrow.Author.Needs.{needs}
-use Rattle.table.proofs.record_ok.Statement.{statement}
-use Rattle.table.proofs.record_ok.Tie as tie
+use Rattle.room.proofs.table.record_ok.Statement.{statement}
+use Rattle.room.proofs.table.record_ok.Tie as tie
 
 mul-at : tie.Need-mul-at
 mul-at c = search needs

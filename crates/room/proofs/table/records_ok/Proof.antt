@@ -5,8 +5,8 @@ use native.Mathlib.Omega.{arith}
 use native.Mathlib.Numerals.{add-one}
 use Rattle.record.specs.Layout.{RECORDS}
 use Rattle.record.specs.ModuleTable.{allBelow, recordsOk}
-use Rattle.table.proofs.records_ok.Statement.{statement}
-use Rattle.table.proofs.records_ok.Tie as tie
+use Rattle.room.proofs.table.records_ok.Statement.{statement}
+use Rattle.room.proofs.table.records_ok.Tie as tie
 
 abbrev Inv-loop : tie.InvT-loop
 Inv-loop t ok₀ i₀ ok i = (i ≤ RECORDS) × (ok ≡ recordsOk i t)

@@ -1,35 +1,44 @@
--- `run_act` meets its contract: other bytes than a table, and a house above 15, are left; on a table the loop's promise is carried
--- past the house byte, which no record has.
-use borrow.Author.Tests.{eq-eqb, ne-eqb, lt-ltb, le-ltb}
-use Rattle.table.proofs.TableLaws.{ran, ran-not}
 use borrow.Author.Needs.{needs}
-use Rattle.table.proofs.run_act.Statement.{statement}
-use Rattle.table.proofs.run_act.Tie as tie
+use Rattle.room.proofs.table.run_act.Statement.{statement}
+use Rattle.room.proofs.table.run_act.Tie as tie
+use Rattle.room.proofs.table.run_act.Reads as reads
+use Rattle.room.proofs.table.run_act.Lts as lts
+use Rattle.record.proofs.step.house_after.Reads as house-after-reads
+use Rattle.room.proofs.table.house_at.Reads as house-at-reads
+use Rattle.room.proofs.table.put_house.Reads as put-house-reads
+use Rattle.room.proofs.table.step_house.Reads as step-house-reads
 
-returns : tie.Need-returns
-returns c = ran-not _ _ _ _ (simp (ne-eqb _ _ (c .if1 .taken)))
+-- src/table.rt:169:9
+house-at-requires : tie.Need-house-at-requires
+house-at-requires c κs = search needs
 
-returns-2 : tie.Need-returns-2
-returns-2 c = ran-not _ _ _ _ (simp (eq-eqb _ _ (c .before .if1 .left), le-ltb _ _ (c .if2 .taken)))
-
+-- src/table.rt:170:9
 step-house-requires : tie.Need-step-house-requires
 step-house-requires c κs = search needs
 
-add-t : tie.Need-add-t
-add-t c = search needs
+-- src/table.rt:171:25
+house-after-requires : tie.Need-house-after-requires
+house-after-requires c κs = search needs
 
-slice-write-t : tie.Need-slice-write-t
-slice-write-t c = search needs
+-- src/table.rt:171:5
+put-house-requires : tie.Need-put-house-requires
+put-house-requires c κs = search needs
 
+-- src/table.rt:165:1
 same-length : tie.Need-same-length
 same-length c = search needs
 
-returns-3 : tie.Need-returns-3
-returns-3 c =
-    let tests = c .before .before .before .before in
-    ran _ _ _ _ _ _ (simp (eq-eqb _ _ (tests .before .if1 .left), lt-ltb _ _ (tests .if2 .left))) (c .before .before .step-house .ensures)
+-- src/table.rt:165:1
+returns : tie.Need-returns
+returns c = ?
 
 pub run-act-spec : {M : Type 1} → statement M
 run-act-spec =
     tie.close
-    (tie.spec returns returns-2 step-house-requires add-t slice-write-t same-length returns-3)
+    (tie.spec
+    house-at-requires
+    step-house-requires
+    house-after-requires
+    put-house-requires
+    same-length
+    returns)

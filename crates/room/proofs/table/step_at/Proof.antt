@@ -3,8 +3,8 @@ use mathlib.Core.Path.{sym, _∙_}
 use native.Mathlib.Omega.{arith}
 use borrow.Author.Tests.{eq-eqb, ne-eqb}
 use borrow.Author.Needs.{needs}
-use Rattle.table.proofs.step_at.Statement.{statement}
-use Rattle.table.proofs.step_at.Tie as tie
+use Rattle.room.proofs.table.step_at.Statement.{statement}
+use Rattle.room.proofs.table.step_at.Tie as tie
 
 load-requires : tie.Need-load-requires
 load-requires c κs = search needs

@@ -4,8 +4,8 @@ use native.Mathlib.Numerals.{towards-suc}
 use lib.ListN.{length-set}
 use Rattle.record.specs.Layout.{put}
 use borrow.Author.Needs.{needs}
-use Rattle.table.proofs.store.Statement.{statement}
-use Rattle.table.proofs.store.Tie as tie
+use Rattle.room.proofs.table.store.Statement.{statement}
+use Rattle.room.proofs.table.store.Tie as tie
 
 mul-at : tie.Need-mul-at
 mul-at c = search needs

@@ -2,8 +2,8 @@
 use borrow.Author.Tests.{eq-eqb, ne-eqb}
 use Rattle.record.specs.ModuleTable.{tableOk}
 use borrow.Author.Needs.{needs}
-use Rattle.table.proofs.valid.Statement.{statement}
-use Rattle.table.proofs.valid.Tie as tie
+use Rattle.room.proofs.table.valid.Statement.{statement}
+use Rattle.room.proofs.table.valid.Tie as tie
 
 returns : tie.Need-returns
 unfolding tableOk
