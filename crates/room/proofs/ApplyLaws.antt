@@ -85,9 +85,10 @@ module _ (m : Message) (t : List ℕ) where
     ran a house count u is ours did =
         let does = by-plan ok in
         let runs = sym asked ∙ is in
-        let left : u ≡ runAct a (houseOf m) t = did .0 ∙ ap (λ (h : ℕ). runAct a h t) ours in
-        (ap (λ (n : ℕ). Done (record { levels = n })) (did .1 ∙ ap (changed RECORDS t) left) ∙ sym (does .0 ∙ ap answerBy runs),
-        ap roomOf left ∙ sym (does .1 ∙ ap roomBy runs))
+        let left : u ≡ runAct a (houseOf m) t = did .0 ∙ ap (λ (h : ℕ). runAct a h t) ours in (
+          ap (λ (n : ℕ). Done (record { levels = n })) (did .1 ∙ ap (changed RECORDS t) left) ∙ sym (does .0 ∙ ap answerBy runs),
+          ap roomOf left ∙ sym (does .1 ∙ ap roomBy runs),
+        )
 
 -- ---- the two outcomes
 

@@ -1,3 +1,5 @@
 pub mod TableLaws
 pub mod HouseLaws
 pub mod ApplyLaws
+pub mod Levels
+pub mod RadioLaws

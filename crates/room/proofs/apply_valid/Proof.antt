@@ -1,47 +1,49 @@
+-- `apply_valid` meets its contract: the plan says what is answered and left, and it runs or it does not.
+use mathlib.Core.Path.{sym, _∙_}
+use Rattle.room.proofs.HouseLaws.{whole}
+use Rattle.room.proofs.ApplyLaws.{asked-house, ran, not-carried}
 use borrow.Author.Needs.{needs}
 use Rattle.room.proofs.apply_valid.Statement.{statement}
 use Rattle.room.proofs.apply_valid.Tie as tie
-use Rattle.room.proofs.apply_valid.Reads as reads
-use Rattle.room.proofs.apply_valid.Lts as lts
-use Rattle.plan.proofs.house_of.Reads as house-of-reads
-use Rattle.plan.proofs.plan_for.Reads as plan-for-reads
-use Rattle.room.proofs.table.run_act.Reads as run-act-reads
 
--- src/lib.rt:37:11
 plan-for-requires : tie.Need-plan-for-requires
 plan-for-requires c κs = search needs
 
--- src/lib.rt:38:19
 enum-known-act : tie.Need-enum-known-act
 enum-known-act c = search needs
 
--- src/lib.rt:39:41
 house-of-requires : tie.Need-house-of-requires
 house-of-requires c κs = search needs
 
--- src/lib.rt:39:41
 cast-run-act : tie.Need-cast-run-act
 cast-run-act c = search needs
 
--- src/lib.rt:39:17
 run-act-requires : tie.Need-run-act-requires
-run-act-requires c κs = ?
+run-act-requires c κs =
+    let planned = c .before .before .before .before .before in
+    let start = planned .before .before in
+    let below = asked-house (start .args .m) (c .before .before .before .act .given .0 .0) (planned .plan-for .ensures .0) (c .before .before .before .act .given .1) in
+    (whole _ (start .pre) .size, rw (c .house-of .ensures) below)
 
--- src/lib.rt:42:23
 enum-known-why : tie.Need-enum-known-why
 enum-known-why c = search needs
 
--- src/lib.rt:32:1
 same-length : tie.Need-same-length
 same-length c = search needs
 
--- src/lib.rt:32:1
 returns : tie.Need-returns
-returns c = ?
+returns c =
+    let planned = c .before .before .before .before .before .before .before .before in
+    let start = planned .before .before in
+    let act = c .before .before .before .before .before .before .act .given in
+    ran (start .args .m) (start .args .table .now) (planned .plan-for .ensures .0) (start .pre) (act .0 .0) _ _ _ (act .1) (c .before .before .before .house-of .ensures) (c .before .before .run-act .ensures)
 
--- src/lib.rt:32:1
 returns-2 : tie.Need-returns-2
-returns-2 c = ?
+returns-2 c =
+    let planned = c .before .before .before in
+    let start = planned .before .before in
+    let why = c .before .why .given in
+    not-carried (start .args .m) (start .args .table .now) (planned .plan-for .ensures .0) (start .pre) (why .0 .0) (why .1)
 
 pub apply-valid-spec : {M : Type 1} → statement M
 apply-valid-spec =

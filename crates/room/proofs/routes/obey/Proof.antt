@@ -1,67 +1,72 @@
+-- `obey` meets its contract: the table stays valid from one message to the next, and the first of two is an address, which changes no level.
+use mathlib.Core.Path.{sym, ap, _∙_}
+use Rattle.record.specs.ModuleTable.{tableOk}
+use Rattle.radio.specs.Answers.{messagesReport}
+use Rattle.room.specs.Rooms.{Room, roomOk}
+use Rattle.room.proofs.ApplyLaws.{valid-stays}
+use Rattle.room.proofs.RadioLaws.{meant, means-some, withLevels, one-obeyed, two-obeyed}
 use borrow.Author.Needs.{needs}
 use Rattle.room.proofs.routes.obey.Statement.{statement}
 use Rattle.room.proofs.routes.obey.Tie as tie
-use Rattle.room.proofs.routes.obey.Reads as reads
-use Rattle.room.proofs.routes.obey.Lts as lts
-use Rattle.radio.proofs.messages.Reads as messages-reads
-use Rattle.room.proofs.apply_valid.Reads as apply-valid-reads
-use Rattle.room.proofs.routes.levels_of.Reads as levels-of-reads
 
--- src/routes.rt:38:11
 messages-requires : tie.Need-messages-requires
 messages-requires c κs = search needs
 
--- src/routes.rt:39:28
 enum-known-first : tie.Need-enum-known-first
 enum-known-first c = search needs
 
--- src/routes.rt:40:13
 apply-valid-requires : tie.Need-apply-valid-requires
 apply-valid-requires c κs = search needs
 
--- src/routes.rt:42:35
 apply-valid-requires-2 : tie.Need-apply-valid-requires-2
-apply-valid-requires-2 c κs = ?
+apply-valid-requires-2 c κs =
+    let start = c .before .before .before .before .before .before .before .before .before .before in
+    let m = c .before .before .before .before .before .before .first .given .0 .0 in
+    ap roomOk (c .before .before .before .apply-valid .ensures .1) ∙ valid-stays m (record { modules = start .args .table .now }) (start .pre .0)
 
--- src/routes.rt:42:25
 levels-of-requires : tie.Need-levels-of-requires
 levels-of-requires c κs = search needs
 
--- src/routes.rt:45:28
 enum-known-only : tie.Need-enum-known-only
 enum-known-only c = search needs
 
--- src/routes.rt:46:31
 apply-valid-requires-3 : tie.Need-apply-valid-requires-3
 apply-valid-requires-3 c κs = search needs
 
--- src/routes.rt:46:21
 levels-of-requires-2 : tie.Need-levels-of-requires-2
 levels-of-requires-2 c κs = search needs
 
--- src/routes.rt:48:38
 enum-told : tie.Need-enum-told
 enum-told c = search needs
 
--- src/routes.rt:34:1
 same-length : tie.Need-same-length
 same-length c = search needs
 
--- src/routes.rt:34:1
 returns : tie.Need-returns
-returns c = ?
+returns c =
+    let start = c .before .before .before .before .before .before .before .before .before .before .before .before .before .before in
+    let v = c .before .before .before .before .before .before .before .before .before .before .first .given in
+    let mean = ap (λ x. messagesReport x .values) (meant (start .args .k) (start .pre .1) (c .before .before .before .before .before .before .before .before .before .before .before .before .messages .ensures .0) (v .1)) in
+    let second = c .before .before .before .apply-valid2 in
+    let did = two-obeyed (start .args .k) (start .args .table .now) (v .0 .0) (v .0 .1 .0) _ _ (second .result) (sym mean) (c .before .before .before .before .before .before .before .apply-valid .ensures .1) (second .ensures .0) (second .ensures .1) in
+    (ap withLevels (c .levels-of .ensures) ∙ did .0, did .1)
 
--- src/routes.rt:34:1
 same-length-2 : tie.Need-same-length-2
 same-length-2 c = search needs
 
--- src/routes.rt:34:1
 returns-2 : tie.Need-returns-2
-returns-2 c = ?
+returns-2 c =
+    let start = c .before .before .before .before .before .before .before .before .before .before in
+    let v = c .before .before .before .before .before .before .only .given in
+    let mean = ap (λ x. messagesReport x .values) (meant (start .args .k) (start .pre .1) (c .before .before .before .before .before .before .before .before .messages .ensures .0) (v .1)) in
+    let only = c .before .before .before .apply-valid3 in
+    let did = one-obeyed (start .args .k) (start .args .table .now) (v .0 .0) _ (only .result) (sym mean) (only .ensures .0) (only .ensures .1) in
+    (ap withLevels (c .levels-of2 .ensures) ∙ did .0, did .1)
 
--- src/routes.rt:34:1
 returns-3 : tie.Need-returns-3
-returns-3 c = ?
+returns-3 c =
+    let start = c .before .before .before .before in
+    absurd (means-some (start .args .k) _ (meant (start .args .k) (start .pre .1) (c .before .before .messages .ensures .0) (c .enum-told .given .1)))
 
 pub obey-spec : {M : Type 1} → statement M
 obey-spec =

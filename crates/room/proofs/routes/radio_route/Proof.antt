@@ -1,59 +1,62 @@
+-- `radio_route` meets its contract: the table is judged before the code is read, and what the reader names is a valid command.
+use mathlib.Core.Path.{sym, _∙_}
+use Rattle.ground.proofs.Causes.{ladder, fine}
+use Rattle.radio.proofs.Theorems.{read-as}
+use Rattle.room.specs.Routes.{radioAnswer, radioAfter}
+use Rattle.room.proofs.RadioLaws.{read-obeyed, not-read, radio-reported}
 use borrow.Author.Needs.{needs}
 use Rattle.room.proofs.routes.radio_route.Statement.{statement}
 use Rattle.room.proofs.routes.radio_route.Tie as tie
-use Rattle.room.proofs.routes.radio_route.Reads as reads
-use Rattle.room.proofs.routes.radio_route.Lts as lts
-use Rattle.radio.proofs.read.Reads as read-reads
-use Rattle.room.proofs.routes.obey.Reads as obey-reads
-use Rattle.room.proofs.table.valid.Reads as valid-reads
 
--- src/routes.rt:60:9
 returns : tie.Need-returns
-returns c = ?
+unfolding radioAnswer radioAfter
+returns c = (search ladder, (search ladder, search ladder))
 
--- src/routes.rt:62:9
 valid-requires : tie.Need-valid-requires
 valid-requires c κs = search needs
 
--- src/routes.rt:63:9
 same-length : tie.Need-same-length
 same-length c = search needs
 
--- src/routes.rt:63:9
 returns-2 : tie.Need-returns-2
-returns-2 c = ?
+unfolding radioAnswer radioAfter
+returns-2 c = (search ladder, (search ladder, search ladder))
 
--- src/routes.rt:65:11
 read-requires : tie.Need-read-requires
 read-requires c κs = search needs
 
--- src/routes.rt:66:28
 enum-known-k : tie.Need-enum-known-k
 enum-known-k c = search needs
 
--- src/routes.rt:66:51
 obey-requires : tie.Need-obey-requires
-obey-requires c κs = ?
+obey-requires c κs =
+    let k = c .before .before .k .given in
+    let code = c .before .before .before .before .before .before .before .before .before .before .before .args .code .now in
+    (fine (c .before .before .before .before .before .before .valid .ensures) (c .before .before .before .before .before .if2 .left), read-as (k .0 .0) code (sym (c .before .before .before .before .read .ensures .0) ∙ k .1) .0)
 
--- src/routes.rt:67:28
 enum-known-why : tie.Need-enum-known-why
 enum-known-why c = search needs
 
--- src/routes.rt:54:1
 same-length-2 : tie.Need-same-length-2
 same-length-2 c = search needs
 
--- src/routes.rt:54:1
 returns-3 : tie.Need-returns-3
-returns-3 c = ?
+returns-3 c =
+    let k = c .before .before .before .before .before .k .given in
+    let a = c .before .before .before .before .before .before .before .before .before .before .before .before .before .before .args in
+    let ok = fine (c .before .before .before .before .before .before .before .before .before .valid .ensures) (c .before .before .before .before .before .before .before .before .if2 .left) in
+    let did = read-obeyed (a .code .now) (a .table .now) ok (c .before .before .before .before .before .before .before .read .ensures .0) (k .0 .0) _ (c .before .before .obey .result) (k .1) (c .before .before .obey .ensures) in
+    (did .0, (radio-reported (a .code .now) (record { modules = a .table .now }) (did .0), did .1))
 
--- src/routes.rt:54:1
 same-length-3 : tie.Need-same-length-3
 same-length-3 c = search needs
 
--- src/routes.rt:54:1
 returns-4 : tie.Need-returns-4
-returns-4 c = ?
+returns-4 c =
+    let a = c .before .before .before .before .before .before .before .before .before .before .args in
+    let ok = fine (c .before .before .before .before .before .valid .ensures) (c .before .before .before .before .if2 .left) in
+    let did = not-read (a .code .now) (a .table .now) ok (c .before .before .before .read .ensures .0) (c .before .why .given .0 .0) (c .before .why .given .1) in
+    (did .0, (radio-reported (a .code .now) (record { modules = a .table .now }) (did .0), did .1))
 
 pub radio-route-spec : {M : Type 1} → statement M
 radio-route-spec =

@@ -1,36 +1,28 @@
+-- `run_act` meets its contract: the steps go by the bytes that the house had before, and its own bytes, which no record has, come last.
+use Rattle.room.proofs.TableLaws.{ran}
 use borrow.Author.Needs.{needs}
 use Rattle.room.proofs.table.run_act.Statement.{statement}
 use Rattle.room.proofs.table.run_act.Tie as tie
-use Rattle.room.proofs.table.run_act.Reads as reads
-use Rattle.room.proofs.table.run_act.Lts as lts
-use Rattle.record.proofs.step.house_after.Reads as house-after-reads
-use Rattle.room.proofs.table.house_at.Reads as house-at-reads
-use Rattle.room.proofs.table.put_house.Reads as put-house-reads
-use Rattle.room.proofs.table.step_house.Reads as step-house-reads
 
--- src/table.rt:169:9
 house-at-requires : tie.Need-house-at-requires
 house-at-requires c κs = search needs
 
--- src/table.rt:170:9
 step-house-requires : tie.Need-step-house-requires
 step-house-requires c κs = search needs
 
--- src/table.rt:171:25
 house-after-requires : tie.Need-house-after-requires
 house-after-requires c κs = search needs
 
--- src/table.rt:171:5
 put-house-requires : tie.Need-put-house-requires
 put-house-requires c κs = search needs
 
--- src/table.rt:165:1
 same-length : tie.Need-same-length
 same-length c = search needs
 
--- src/table.rt:165:1
 returns : tie.Need-returns
-returns c = ?
+returns c =
+    let stepped = c .before .before .before .before .before .before .before in
+    ran _ _ _ _ _ _ _ _ (stepped .before .before .house-at .ensures) (c .before .before .before .house-after .ensures) (stepped .step-house .ensures) (c .before .before .put-house .ensures)
 
 pub run-act-spec : {M : Type 1} → statement M
 run-act-spec =
