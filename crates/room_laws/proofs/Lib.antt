@@ -1,3 +1,2 @@
-pub mod HouseLaws
-pub mod Outcomes
+pub mod ReachLaws
 pub mod Theorems
