@@ -1,4 +1,5 @@
 pub mod Rooms
-pub mod Lent
 pub mod Routes
+pub mod Mains
+pub mod Lent
 pub mod Statements

@@ -11,6 +11,8 @@ use Rattle.message.specs.declared.Message.{Message}
 use Rattle.plan.specs.Plans.{planOf, carried}
 use Rattle.record.specs.Layout.{RECORDS, TABLE-BYTES}
 use Rattle.record.specs.ModuleTable.{tableOk, carriedOut, changed}
+use Rattle.ground.specs.declared.CountAnswer.{CountAnswer}
+use Rattle.ground.specs.declared.CountAnswer.the-variants.{Done as Counted, Refused as NotCounted}
 use Rattle.room.specs.declared.Changes.{Changes}
 use Rattle.room.specs.declared.RoomAnswer.{RoomAnswer}
 use Rattle.room.specs.declared.RoomAnswer.the-variants.{Done, Refused}
@@ -62,3 +64,8 @@ roomReport (Refused why) = refuses why
 abbrev pub levelsOf : RoomAnswer → ℕ
 levelsOf (Done c) = c .levels
 levelsOf (Refused why) = 0
+
+-- the counts of an answer as one count: the levels in its lowest 16 bits, and 0 above them until there is a second count and a reply
+abbrev pub tallied : RoomAnswer → CountAnswer
+tallied (Done c) = Counted (c .levels)
+tallied (Refused why) = NotCounted why

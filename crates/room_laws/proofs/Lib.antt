@@ -1,2 +1,4 @@
 pub mod ReachLaws
 pub mod Theorems
+pub mod Carried
+pub mod Bursts
