@@ -2,3 +2,4 @@ pub mod ReachLaws
 pub mod Theorems
 pub mod Carried
 pub mod Bursts
+pub mod Press
