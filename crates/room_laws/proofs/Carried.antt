@@ -65,7 +65,7 @@ as-append (m ∷ ms) ns room left n p =
     let q = as-append ms ns (roomAfter m room) left n p in
     (q .0, add-assoc (levelsOf (applyAnswer m room)) (countAll ms (roomAfter m room)) n ∙ ap (λ x. levelsOf (applyAnswer m room) + x) (q .1))
 
-all-stay : (ms : List Message) (room : Room) → roomOk room ≡ true → roomOk (roomAfterAll ms room) ≡ true
+pub all-stay : (ms : List Message) (room : Room) → roomOk room ≡ true → roomOk (roomAfterAll ms room) ≡ true
 unfolding roomAfterAll
 all-stay [] room ok = ok
 all-stay (m ∷ ms) room ok = all-stay ms (roomAfter m room) (valid-stays m room ok)
@@ -233,7 +233,14 @@ unfolding countsIn
 counts-none zero l none = refl
 counts-none (suc n) l none =
     rw (
-      none 0, none 1, none 2, none 3, none 4, none 5, none 6, none 7,
+      none 0,
+      none 1,
+      none 2,
+      none 3,
+      none 4,
+      none 5,
+      none 6,
+      none 7,
       counts-none n (drop 8 l) (λ i. getD-drop 8 l i 0 ∙ none (8 + i)),
     )
 

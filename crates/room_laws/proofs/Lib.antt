@@ -3,3 +3,4 @@ pub mod Theorems
 pub mod Carried
 pub mod Bursts
 pub mod Press
+pub mod Slices
