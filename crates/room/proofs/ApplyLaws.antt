@@ -8,12 +8,12 @@
 --     valid-stays, apply-lowest, count-is      statements of specs/Statements, and the count between the two rooms
 use mathlib.Core.Path.{_≡_, refl, sym, ap, _∙_}
 use mathlib.Core.Bool.{Bool, true, false, and-eq-true-iff}
-use mathlib.Core.List.{List, [], _∷_}
+use mathlib.Core.List.{List}
 use Prim.Native.Nat.{ℕ, _<_}
 use native.Mathlib.Omega.{arith}
 use lib.Dec.{eqb, leb}
 use lib.ListN.{length}
-use Rattle.ground.specs.Refusals.{judged, reports, refuses}
+use Rattle.ground.specs.Refusals.{judged}
 use Rattle.ground.specs.declared.Refusal.{Refusal}
 use Rattle.ground.specs.declared.Refusal.the-variants as refusal
 use Rattle.ground.proofs.Choices.{below-sixteen, both-below}
@@ -27,7 +27,7 @@ use Rattle.plan.specs.declared.Plan.{Plan}
 use Rattle.plan.specs.declared.Plan.the-variants.{Run, Refused as Asks-none}
 use Rattle.record.specs.Layout.{RECORDS, HOUSES, TABLE-BYTES}
 use Rattle.record.specs.ModuleTable.{tableOk, runAct, changed}
-use Rattle.room.specs.Rooms.{Room, roomOf, roomLong, roomOk, changes, applyCauses, roomWith, roomAfter, applyAnswer, roomReport, levelsOf}
+use Rattle.room.specs.Rooms.{Room, roomOf, roomLong, roomOk, changes, applyCauses, roomAfter, applyAnswer, applyReport, roomReport, levelsOf}
 use Rattle.room.specs.Statements.{ValidStays, ApplyLowest}
 use Rattle.room.specs.declared.RoomAnswer.{RoomAnswer}
 use Rattle.room.specs.declared.RoomAnswer.the-variants.{Done, Refused}
@@ -108,7 +108,8 @@ pub outcome : (m : Message) (room : Room) → Outcome m room
 unfolding applyAnswer roomAfter judged
 outcome m room = go (roomLong room) refl (messageOk m) refl (roomOk room) refl (planOf m) refl
   where
-    go : (b : Bool) → roomLong room ≡ b → (c : Bool) → messageOk m ≡ c → (d : Bool) → roomOk room ≡ d → (p : Plan) → planOf m ≡ p → Outcome m room
+    go : (b : Bool) → roomLong room ≡ b → (c : Bool) → messageOk m ≡ c → (d : Bool) → roomOk room ≡ d → (p : Plan) → planOf m ≡ p
+        → Outcome m room
     go false e c f d g p q = stays refusal.Table (simp e) (simp e)
     go true e false f d g p q = stays refusal.Message (simp (e, f)) (simp (e, f))
     go true e true f false g p q = stays refusal.Record (simp (e, f, g)) (simp (e, f, g))
@@ -118,7 +119,7 @@ outcome m room = go (roomLong room) refl (messageOk m) refl (roomOk room) refl (
 -- ---- the statements
 
 pub apply-reported : (m : Message) (room : Room) {r : RoomAnswer} → r ≡ applyAnswer m room
-    → roomReport r ≡ judged (applyCauses m room) (reports (changes room (roomWith m room) .levels ∷ [])) refuses
+    → roomReport r ≡ applyReport m room
 unfolding applyAnswer
 apply-reported m room e = ap roomReport e ∙ judged-map roomReport _ _ (applyCauses m room)
 

@@ -24,7 +24,8 @@ use Rattle.record.specs.declared.House.{House}
 use Rattle.record.specs.Layout.{RECORD-BYTES, UNITS, HOUSES, RECORDS, HEARD-AT, TABLE-BYTES, recordAt, houseAt}
 use Rattle.record.specs.ModuleTable.{allBelow, recordOk, houseOk, recordsOk, housesOk, tableOk, stepRecord, houseAfter, stepHouse, runAct}
 use Rattle.record.proofs.RecordLaws.{record-stays-valid, house-stays-valid}
-use Rattle.room.proofs.TableLaws.{Apart, byte-put-apart, record-put-own, record-put-other, length-put-house, byte-put-house, record-put-house, house-put-own, house-put-other, house-put, length-step, step-other}
+use Rattle.room.proofs.TableLaws.{Apart, byte-put-apart, record-put-own, record-put-other, length-put-house, byte-put-house, record-put-house}
+use Rattle.room.proofs.TableLaws.{house-put-own, house-put-other, house-put, length-step, step-other}
 
 -- ---- a house's records stepped
 

@@ -10,7 +10,7 @@ use mathlib.Core.List.{List, [], _∷_, head-eq-of-cons-eq}
 use Prim.Native.Nat.{ℕ, _<_}
 use native.Mathlib.Omega.{arith}
 use lib.ListN.{length}
-use Rattle.ground.specs.Refusals.{judged, reports, refuses}
+use Rattle.ground.specs.Refusals.{judged}
 use Rattle.ground.specs.declared.Refusal.{Refusal}
 use Rattle.ground.proofs.Causes.{judged-map, lowest-given}
 use Rattle.message.specs.declared.Message.{Message}
@@ -25,7 +25,7 @@ use Rattle.radio.specs.declared.RadioRead.the-variants as read
 use Rattle.record.specs.Layout.{RECORDS, recordAt}
 use Rattle.record.specs.ModuleTable.{tableOk, changed}
 use Rattle.room.specs.Rooms.{Room, roomOf, changes, roomAfter, applyAnswer, roomReport, levelsOf}
-use Rattle.room.specs.Routes.{roomAfterAll, radioCauses, radioRoom, radioAfter, radioAnswer}
+use Rattle.room.specs.Routes.{roomAfterAll, radioCauses, radioAfter, radioAnswer, radioReport}
 use Rattle.room.specs.Statements.{RadioLowest}
 use Rattle.room.specs.declared.Changes.{Changes}
 use Rattle.room.specs.declared.RoomAnswer.{RoomAnswer}
@@ -104,8 +104,9 @@ module _ (code t : List ℕ) where
     by-reader : (radioAnswer code (roomOf t) ≡ answerBy r) × (radioAfter code (roomOf t) ≡ roomBy r)
     unfolding radioAnswer radioAfter readAnswer judged
     by-reader =
+        let k = read.Command (commandOf code) in
         rw (whole t ok .long, ok, reads)
-        (sym (judged-map answerBy (read.Command (commandOf code)) read.Refused (readCauses code)), sym (judged-map roomBy (read.Command (commandOf code)) read.Refused (readCauses code)))
+        (sym (judged-map answerBy k read.Refused (readCauses code)), sym (judged-map roomBy k read.Refused (readCauses code)))
 
     pub read-obeyed : (k : RadioCommand) (u : List ℕ) (c : Changes) → r ≡ read.Command k → Owed k t c u → Right (Done c) u
     read-obeyed k u c is did = (
@@ -117,7 +118,7 @@ module _ (code t : List ℕ) where
     not-read why is = (sym (by-reader .0 ∙ ap answerBy is), sym (by-reader .1 ∙ ap roomBy is))
 
 pub radio-reported : (code : List ℕ) (room : Room) {r : RoomAnswer} → r ≡ radioAnswer code room
-    → roomReport r ≡ judged (radioCauses code room) (reports (changes room (radioRoom code room) .levels ∷ [])) refuses
+    → roomReport r ≡ radioReport code room
 unfolding radioAnswer
 radio-reported code room e = ap roomReport e ∙ judged-map roomReport _ _ (radioCauses code room)
 

@@ -60,7 +60,8 @@ pub length-put : (t : List ℕ) (i : ℕ) (r : Record) → length (put t i r) �
 unfolding put
 length-put t i r = length-sets t (i * RECORD-BYTES) (bytesOf r)
 
-pub byte-put-own : (t : List ℕ) (i k : ℕ) (r : Record) → i * RECORD-BYTES + RECORD-BYTES ≤ length t → k < RECORD-BYTES → getD (put t i r) (i * RECORD-BYTES + k) 0 ≡ getD (bytesOf r) k 0
+pub byte-put-own : (t : List ℕ) (i k : ℕ) (r : Record) → i * RECORD-BYTES + RECORD-BYTES ≤ length t → k < RECORD-BYTES
+    → getD (put t i r) (i * RECORD-BYTES + k) 0 ≡ getD (bytesOf r) k 0
 unfolding put
 byte-put-own t i k r h hk = getD-sets-in (bytesOf r) t (i * RECORD-BYTES) k 0 hk h
 
@@ -77,7 +78,8 @@ byte-put-apart t i j r d =
 
 -- ---- the records
 
-pub record-ext : (t u : List ℕ) (i j : ℕ) → ((k : ℕ) → k < RECORD-BYTES → getD t (i * RECORD-BYTES + k) 0 ≡ getD u (j * RECORD-BYTES + k) 0) → recordAt t i ≡ recordAt u j
+pub record-ext : (t u : List ℕ) (i j : ℕ) → ((k : ℕ) → k < RECORD-BYTES → getD t (i * RECORD-BYTES + k) 0 ≡ getD u (j * RECORD-BYTES + k) 0)
+    → recordAt t i ≡ recordAt u j
 unfolding recordAt
 record-ext t u i j e =
     let first : getD t (i * RECORD-BYTES) 0 ≡ getD u (j * RECORD-BYTES) 0 = simp add-zero at (e 0 (omega arith)) in

@@ -56,7 +56,11 @@ roomAfter m room = judged (applyCauses m room) (roomWith m room) (λ why. room)
 unfoldable pub applyAnswer : Message → Room → RoomAnswer
 applyAnswer m room = judged (applyCauses m room) (Done (changes room (roomWith m room))) Refused
 
--- the number of an answer and its count: "Each refusal .. returns its number with count 0"
+-- the number and the count
+abbrev pub applyReport : Message → Room → Report ℕ
+applyReport m room = judged (applyCauses m room) (reports (changes room (roomWith m room) .levels ∷ [])) refuses
+
+-- those of an answer: "Each refusal .. returns its number with count 0"
 abbrev pub roomReport : RoomAnswer → Report ℕ
 roomReport (Done c) = reports (c .levels ∷ [])
 roomReport (Refused why) = refuses why

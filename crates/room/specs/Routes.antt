@@ -2,7 +2,7 @@
 -- that it carries, in their order.
 use Prim.Native.Nat.{ℕ}
 use mathlib.Core.List.{List, [], _∷_, _++_}
-use Rattle.ground.specs.Refusals.{Cause, unless, judged}
+use Rattle.ground.specs.Refusals.{Report, reports, refuses, Cause, unless, judged}
 use Rattle.ground.specs.declared.Refusal.the-variants as refusal
 use Rattle.message.specs.declared.Message.{Message}
 use Rattle.radio.specs.Codes.{commandOf}
@@ -37,3 +37,7 @@ radioAfter code room = judged (radioCauses code room) (radioRoom code room) (λ 
 -- the answer: the count is over both messages
 unfoldable pub radioAnswer : List ℕ → Room → RoomAnswer
 radioAnswer code room = judged (radioCauses code room) (Done (changes room (radioRoom code room))) Refused
+
+-- its number and count
+abbrev pub radioReport : List ℕ → Room → Report ℕ
+radioReport code room = judged (radioCauses code room) (reports (changes room (radioRoom code room) .levels ∷ [])) refuses

@@ -8,10 +8,8 @@ use record::TABLE_BYTES;
 use table::run_act;
 ghost use mathlib.Core.Path.{_≡_};
 ghost use mathlib.Core.Bool.{true};
-ghost use mathlib.Core.List.{[], _∷_};
-ghost use Rattle.ground.specs.Refusals.{judged, reports, refuses};
 ghost use Rattle.record.specs.ModuleTable.{tableOk};
-ghost use Rattle.room.specs.Rooms.{roomOf, changes, applyCauses, roomWith, roomAfter, applyAnswer, roomReport};
+ghost use Rattle.room.specs.Rooms.{roomOf, roomAfter, applyAnswer, applyReport, roomReport};
 
 pub mod routes;
 mod table;
@@ -47,7 +45,7 @@ pub(crate) fn apply_valid(table: &mut [u8], m: Message) -> RoomAnswer
 // is left as it is.
 pub fn apply(table: &mut [u8], m: Message) -> RoomAnswer
     ensures answer { λ r. ⌜ r ≡ applyAnswer m (roomOf (now (table .entry))) ⌝ }
-    ensures report { λ r. ⌜ roomReport r ≡ judged (applyCauses m (roomOf (now (table .entry)))) (reports (changes (roomOf (now (table .entry))) (roomWith m (roomOf (now (table .entry)))) .levels ∷ [])) refuses ⌝ }
+    ensures report { λ r. ⌜ roomReport r ≡ applyReport m (roomOf (now (table .entry))) ⌝ }
     ensures room { λ _. ⌜ roomOf (now (table .exit)) ≡ roomAfter m (roomOf (now (table .entry))) ⌝ }
 {
     if table.len() != TABLE_BYTES {

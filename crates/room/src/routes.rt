@@ -12,13 +12,11 @@ use radio::read;
 use record::TABLE_BYTES;
 ghost use mathlib.Core.Path.{_≡_};
 ghost use mathlib.Core.Bool.{true};
-ghost use mathlib.Core.List.{[], _∷_};
-ghost use Rattle.ground.specs.Refusals.{judged, reports, refuses};
 ghost use Rattle.radio.specs.Codes.{commandOk};
 ghost use Rattle.radio.specs.Answers.{messagesOf};
 ghost use Rattle.record.specs.ModuleTable.{tableOk};
 ghost use Rattle.room.specs.Rooms.{roomOf, changes, roomReport, levelsOf};
-ghost use Rattle.room.specs.Routes.{roomAfterAll, radioCauses, radioRoom, radioAfter, radioAnswer};
+ghost use Rattle.room.specs.Routes.{roomAfterAll, radioAfter, radioAnswer, radioReport};
 
 // How many modules have another level than before.
 fn levels_of(a: RoomAnswer) -> usize
@@ -33,7 +31,8 @@ fn levels_of(a: RoomAnswer) -> usize
 // Applies the messages of a radio command. An address changes no level, so the last message's count is that of both.
 fn obey(table: &mut [u8], k: RadioCommand) -> Changes
     requires { ⌜ (tableOk (now table) ≡ true) × (commandOk k ≡ true) ⌝ }
-    ensures { λ r. ⌜ (r ≡ changes (roomOf (now (table .entry))) (roomOf (now (table .exit)))) × (roomOf (now (table .exit)) ≡ roomAfterAll (messagesOf k) (roomOf (now (table .entry)))) ⌝ }
+    ensures { λ r. ⌜ r ≡ changes (roomOf (now (table .entry))) (roomOf (now (table .exit))) ⌝ }
+    ensures { λ _. ⌜ roomOf (now (table .exit)) ≡ roomAfterAll (messagesOf k) (roomOf (now (table .entry))) ⌝ }
 {
     match messages(k) {
         RadioMessages::Two(first, second) => {
@@ -53,7 +52,7 @@ fn obey(table: &mut [u8], k: RadioCommand) -> Changes
 // before. Refused, it leaves the table as it is.
 pub fn radio_route(table: &mut [u8], code: &[u8]) -> RoomAnswer
     ensures answer { λ r. ⌜ r ≡ radioAnswer (now (code .entry)) (roomOf (now (table .entry))) ⌝ }
-    ensures report { λ r. ⌜ roomReport r ≡ judged (radioCauses (now (code .entry)) (roomOf (now (table .entry)))) (reports (changes (roomOf (now (table .entry))) (radioRoom (now (code .entry)) (roomOf (now (table .entry)))) .levels ∷ [])) refuses ⌝ }
+    ensures report { λ r. ⌜ roomReport r ≡ radioReport (now (code .entry)) (roomOf (now (table .entry))) ⌝ }
     ensures room { λ _. ⌜ roomOf (now (table .exit)) ≡ radioAfter (now (code .entry)) (roomOf (now (table .entry))) ⌝ }
 {
     if table.len() != TABLE_BYTES {

@@ -44,7 +44,8 @@ use Rattle.room.proofs.TableLaws.{changed-none}
 use Rattle.room.proofs.HouseLaws.{whole}
 use Rattle.room.proofs.ApplyLaws.{Outcome, stays, did, outcome, valid-stays, count-is}
 use Rattle.room.proofs.Levels.{address-levels, levels-count}
-use Rattle.room_laws.specs.Demand2.{Route, radio, mains, meantBy, carries, lending, radioLeaves, leaves, radioCounts, numberIn, countsIn, counts, Demand2, NoMoreThanMessages}
+use Rattle.room_laws.specs.Demand2.{Route, radio, mains, meantBy, carries, lending, radioLeaves, leaves, radioCounts, numberIn, countsIn, counts}
+use Rattle.room_laws.specs.Demand2.{Demand2, NoMoreThanMessages}
 use Rattle.room_laws.proofs.Theorems.{count-at-most-16}
 
 -- ---- messages applied one after the other
@@ -287,7 +288,8 @@ module _ (state halves : List ℕ) (room : Room) where
   unfolding mainsAfter lentAfter judged told roomAfterAll countAll
   mains-carried ok = go (holdsReceiver state) refl
     where
-      go : (b : Bool) → holdsReceiver state ≡ b → As (told (eventsHeard state halves)) room (mainsAfter l room) (countsIn (length halves) (lentAfter l room .answers))
+      go : (b : Bool) → holdsReceiver state ≡ b
+          → As (told (eventsHeard state halves)) room (mainsAfter l room) (countsIn (length halves) (lentAfter l room .answers))
       go true holds =
           let es = eventsHeard state halves in
           let rest = drop (8 * length halves) (l .answers) in

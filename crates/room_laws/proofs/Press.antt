@@ -117,12 +117,16 @@ module _ (h u : ℕ) (room : Room) (house : leb h 15 ≡ true) (unit : leb u 15 
   darkened : u < UNITS → present (recordAt (room .modules) (h * UNITS + u)) ≡ true → darkens h (lit h u room) (h * UNITS + u) ≡ true
   darkened below here =
       let r = recordAt (room .modules) (h * UNITS + u) in
-      rw (off-record u below, lit-record u below, lit-by u (ownOf h room) (ownOf h (called h u room)) r here, dark-by u (ownOf h room) (ownOf h (called h u room)) (ownOf h (lit h u room)) r here)
+      let own = ownOf h room in
+      let next = ownOf h (called h u room) in
+      rw (off-record u below, lit-record u below, lit-by u own next r here, dark-by u own next (ownOf h (lit h u room)) r here)
 
   kept : ownOf h room .heard ≡ 1 → (n : ℕ) → n < UNITS → eqb n u ≡ false → darkens h (lit h u room) (h * UNITS + n) ≡ false
   kept heard n below other =
+      let r = recordAt (room .modules) (h * UNITS + n) in
+      let gone = eq-eqb (ownOf h room .heard) 1 heard in
       rw (off-record n below, lit-record n below)
-      (stays-as-it-is _ _ (spared-by u n (ownOf h room) (ownOf h (called h u room)) (ownOf h (lit h u room)) (recordAt (room .modules) (h * UNITS + n)) (eq-eqb (ownOf h room .heard) 1 heard) other))
+      (stays-as-it-is _ _ (spared-by u n (ownOf h room) (ownOf h (called h u room)) (ownOf h (lit h u room)) r gone other))
 
 -- ---- the theorems
 

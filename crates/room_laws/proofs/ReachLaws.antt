@@ -14,9 +14,11 @@ use lib.ListN.{length, getD}
 use Rattle.ground.specs.Choice.{pick}
 use Rattle.ground.proofs.Choices.{pick-both}
 use Rattle.message.specs.declared.Function.{Function}
-use Rattle.message.specs.declared.Function.the-variants.{AllUnitsOff, AllLightsOn, On, Off, Dim, Bright, AllLightsOff, HailRequest, HailAcknowledge, StatusOn, StatusOff, StatusRequest}
+use Rattle.message.specs.declared.Function.the-variants.{AllUnitsOff, AllLightsOn, On, Off, Dim, Bright, AllLightsOff, HailRequest, HailAcknowledge}
+use Rattle.message.specs.declared.Function.the-variants.{StatusOn, StatusOff, StatusRequest}
 use Rattle.plan.specs.declared.Act.{Act}
-use Rattle.plan.specs.declared.Act.the-variants.{Nothing, Address, Obey, Join, Level, JoinAt, UnitsOn, UnitsOff, Leave, LeaveHouse, Execute, GroupOff, GroupDim, GroupBright}
+use Rattle.plan.specs.declared.Act.the-variants.{Nothing, Address, Obey, Join, Level, JoinAt, UnitsOn, UnitsOff, Leave, LeaveHouse, Execute, GroupOff}
+use Rattle.plan.specs.declared.Act.the-variants.{GroupDim, GroupBright}
 use Rattle.record.specs.declared.Record.{Record}
 use Rattle.record.specs.declared.House.{House}
 use Rattle.record.specs.Layout.{RECORD-BYTES, UNITS, HOUSES, RECORDS, TABLE-BYTES, recordAt, bytesOf, present, lamp, member, preset, withAddressed}
@@ -45,7 +47,8 @@ step-changed a own h t (suc n) room house size =
     let i = h * UNITS + n in
     let r = stepRecord a own n (recordAt s i) in
     let few = step-changed a own h t n (omega arith) house size in
-    let one : pick (eqb (recordAt s i .level) (r .level)) 0 1 ≤ 1 = pick-both (λ x. x ≤ 1) (eqb (recordAt s i .level) (r .level)) 0 1 (omega arith) (omega arith) in
+    let same = eqb (recordAt s i .level) (r .level) in
+    let one : pick same 0 1 ≤ 1 = pick-both (λ x. x ≤ 1) same 0 1 (omega arith) (omega arith) in
     rw (changed-put RECORDS i t s r (omega arith) (omega (arith, length-step a own h t n)) (sym (step-other a own h t n i (λ k hk e. omega arith))))
     (omega arith)
 

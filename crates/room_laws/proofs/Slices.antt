@@ -129,7 +129,8 @@ module _ (xs ys : List ℕ) (l : Lent) (fits : Fits (length (xs ++ ys)) l) where
       let answer-places : 8 * length (xs ++ ys) ≡ a + 8 * length ys = omega arith in
       let events : flatMap eventBytes (eventsHeard s (xs ++ ys)) ++ drop (6 * length (xs ++ ys)) (l .events) ≡ joined (done xs first) (done ys two) .events =
       rw (heard, places, bytes-append es fs) (sym (put-parts e (6 * length ys) (flatMap eventBytes es) (flatMap eventBytes fs) (l .events))) in
-      let answers : answersHeard (eventsHeard s (xs ++ ys)) (l .room) ++ drop (8 * length (xs ++ ys)) (l .answers) ≡ joined (done xs first) (done ys two) .answers =
+      let answers : answersHeard (eventsHeard s (xs ++ ys)) (l .room) ++ drop (8 * length (xs ++ ys)) (l .answers)
+      ≡ joined (done xs first) (done ys two) .answers =
       rw (heard, answer-places, answers-append es fs (l .room))
       (sym (put-parts a (8 * length ys) (answersHeard es (l .room)) (answersHeard fs (roomHeard es (l .room))) (l .answers))) in
       let room : roomHeard (eventsHeard s (xs ++ ys)) (l .room) ≡ roomHeard fs (roomHeard es (l .room)) =

@@ -25,7 +25,8 @@ use Rattle.room.specs.Rooms.{Room, roomAfter, applyAnswer, roomReport, levelsOf
 use Rattle.room.proofs.TableLaws.{changed-ext, record-put-house}
 use Rattle.room.proofs.HouseLaws.{run-length, run-record, run-byte, run-house, run-house-other, whole}
 use Rattle.room.proofs.ApplyLaws.{house-below, Ran, Outcome, stays, did, outcome}
-use Rattle.room_laws.specs.Statements.{ownByte, planConcerns, ByPlan, OwnHouseOnly, OthersStay, RecordByRecord, RefusedStays, CountAtMost16, ExtendedKeeps}
+use Rattle.room_laws.specs.Statements.{ownByte, planConcerns, ByPlan, OwnHouseOnly, OthersStay, RecordByRecord, RefusedStays, CountAtMost16}
+use Rattle.room_laws.specs.Statements.{ExtendedKeeps}
 use Rattle.room_laws.proofs.ReachLaws.{byte-of-record, step-changed, step-unreached}
 
 -- ---- only the own house
@@ -131,7 +132,8 @@ abbrev Keeps : Plan → Type 0
 Keeps (Run a) = ((own : House) (n : ℕ) (r : Record) → stepRecord a own n r .addressed ≡ r .addressed) × ((own : House) → houseAfter a own ≡ own)
 Keeps (Refused why) = Unit {0}
 
-keeps-act : (a : Act) → ((own : House) (n : ℕ) (r : Record) → acted a own n r .addressed ≡ r .addressed) → ((own : House) → houseAfter a own ≡ own) → Keeps (Run a)
+keeps-act : (a : Act) → ((own : House) (n : ℕ) (r : Record) → acted a own n r .addressed ≡ r .addressed) → ((own : House) → houseAfter a own ≡ own)
+    → Keeps (Run a)
 unfolding stepRecord
 keeps-act a marks house = (λ own n r. pick-both (λ s. s .addressed ≡ r .addressed) (present r) (acted a own n r) r (marks own n r) refl, house)
 
@@ -164,9 +166,11 @@ keeps-extended u d c =
     (pick-both Keeps (eqb (d / 16) 0) _ _ (keeps-act (Leave u gs) (λ own n r. keeps-one (eqb n u) _ r refl) (λ own. refl))
     (pick-both Keeps (eqb (d / 16) 15) _ _ (keeps-act (LeaveHouse gs) (λ own n r. refl) (λ own. refl)) tt))
     (pick-both Keeps (eqb c 0x36) _ _
-    (keeps-absolute d _ (keeps-either (bit 4 d) _ _ (keeps-act (GroupOff g) (λ own n r. refl) (λ own. refl)) (keeps-act (Execute g) (λ own n r. refl) (λ own. refl))))
+    (keeps-absolute d _
+    (keeps-either (bit 4 d) _ _ (keeps-act (GroupOff g) (λ own n r. refl) (λ own. refl)) (keeps-act (Execute g) (λ own n r. refl) (λ own. refl))))
     (pick-both Keeps (eqb c 0x3C) _ _
-    (keeps-absolute d _ (keeps-either (bit 4 d) _ _ (keeps-act (GroupBright g) (λ own n r. refl) (λ own. refl)) (keeps-act (GroupDim g) (λ own n r. refl) (λ own. refl))))
+    (keeps-absolute d _
+    (keeps-either (bit 4 d) _ _ (keeps-act (GroupBright g) (λ own n r. refl) (λ own. refl)) (keeps-act (GroupDim g) (λ own n r. refl) (λ own. refl))))
     (pick-both Keeps (eqb c 0x37) _ _ (pick-both Keeps (not (bit 5 d) || (not (bit 4 d) && eqb (d % 16) 0)) _ _ keeps-nothing tt)
     (pick-both Keeps (leb 0x38 c && leb c 0x3B) _ _ keeps-nothing tt)))))))))
 
@@ -184,8 +188,10 @@ extended-keeps h u d c room = go (outcome m room)
         let t = room .modules in
         let keeps : Keeps (Run a) = subst Keeps (r .runs) (keeps-extended u d c) in (
           λ i below.
+              let mark = recordAt t i .addressed in
+              let kept = keeps .0 (houseAt t h) (i % UNITS) (recordAt t i) in
               rw (r .left, run-record a h t i below (whole t (r .ok) .size))
-              (pick-both (λ (x : Record). x .addressed ≡ recordAt t i .addressed) (eqb (i / UNITS) h) _ _ (keeps .0 (houseAt t h) (i % UNITS) (recordAt t i)) refl),
+              (pick-both (λ (x : Record). x .addressed ≡ mark) (eqb (i / UNITS) h) _ _ kept refl),
           λ g. rw (r .left) (heard g (ℕ-discrete g h) a r (keeps .1)),
         )
       where

@@ -33,7 +33,8 @@ pub record SamePress (z w h u : ℕ) (room : Room) : Type 0 where
   -- the one that was pressed among them, if a module is there,
   pub pressed : roomOk room ≡ true → present (recordAt (room .modules) (h * UNITS + u)) ≡ true → darkens h (leaves (byRadio h u) room) (h * UNITS + u) ≡ true
   -- and no other of the house, if a function has come since they were addressed: the press lets go of them
-  pub let-go : roomOk room ≡ true → houseAt (room .modules) h .heard ≡ 1 → (n : ℕ) → n < UNITS → eqb n u ≡ false → darkens h (leaves (byRadio h u) room) (h * UNITS + n) ≡ false
+  pub let-go : roomOk room ≡ true → houseAt (room .modules) h .heard ≡ 1 → (n : ℕ) → n < UNITS → eqb n u ≡ false
+      → darkens h (leaves (byRadio h u) room) (h * UNITS + n) ≡ false
 
 -- Unit u of house h. The room is any, also one that the routes refuse: proofs/Press.antt
 abbrev pub Press : Type 0

@@ -22,7 +22,8 @@ run-act-requires : tie.Need-run-act-requires
 run-act-requires c κs =
     let planned = c .before .before .before .before .before in
     let start = planned .before .before in
-    let below = asked-house (start .args .m) (c .before .before .before .act .given .0 .0) (planned .plan-for .ensures .0) (c .before .before .before .act .given .1) in
+    let act = c .before .before .before .act .given in
+    let below = asked-house (start .args .m) (act .0 .0) (planned .plan-for .ensures .0) (act .1) in
     (whole _ (start .pre) .size, rw (c .house-of .ensures) below)
 
 enum-known-why : tie.Need-enum-known-why
@@ -36,7 +37,8 @@ returns c =
     let planned = c .before .before .before .before .before .before .before .before in
     let start = planned .before .before in
     let act = c .before .before .before .before .before .before .act .given in
-    ran (start .args .m) (start .args .table .now) (planned .plan-for .ensures .0) (start .pre) (act .0 .0) _ _ _ (act .1) (c .before .before .before .house-of .ensures) (c .before .before .run-act .ensures)
+    ran (start .args .m) (start .args .table .now) (planned .plan-for .ensures .0) (start .pre) (act .0 .0) _ _ _ (act .1)
+    (c .before .before .before .house-of .ensures) (c .before .before .run-act .ensures)
 
 returns-2 : tie.Need-returns-2
 returns-2 c =

@@ -46,9 +46,12 @@ returns : tie.Need-returns
 returns c =
     let start = c .before .before .before .before .before .before .before .before .before .before .before .before .before .before in
     let v = c .before .before .before .before .before .before .before .before .before .before .first .given in
-    let mean = ap (λ x. messagesReport x .values) (meant (start .args .k) (start .pre .1) (c .before .before .before .before .before .before .before .before .before .before .before .before .messages .ensures .0) (v .1)) in
+    let answered = c .before .before .before .before .before .before .before .before .before .before .before .before .messages .ensures .0 in
+    let mean = ap (λ x. messagesReport x .values) (meant (start .args .k) (start .pre .1) answered (v .1)) in
+    let first = c .before .before .before .before .before .before .before .apply-valid in
     let second = c .before .before .before .apply-valid2 in
-    let did = two-obeyed (start .args .k) (start .args .table .now) (v .0 .0) (v .0 .1 .0) _ _ (second .result) (sym mean) (c .before .before .before .before .before .before .before .apply-valid .ensures .1) (second .ensures .0) (second .ensures .1) in
+    let did = two-obeyed (start .args .k) (start .args .table .now) (v .0 .0) (v .0 .1 .0) _ _ (second .result) (sym mean)
+    (first .ensures .1) (second .ensures .0) (second .ensures .1) in
     (ap withLevels (c .levels-of .ensures) ∙ did .0, did .1)
 
 same-length-2 : tie.Need-same-length-2
@@ -58,7 +61,8 @@ returns-2 : tie.Need-returns-2
 returns-2 c =
     let start = c .before .before .before .before .before .before .before .before .before .before in
     let v = c .before .before .before .before .before .before .only .given in
-    let mean = ap (λ x. messagesReport x .values) (meant (start .args .k) (start .pre .1) (c .before .before .before .before .before .before .before .before .messages .ensures .0) (v .1)) in
+    let answered = c .before .before .before .before .before .before .before .before .messages .ensures .0 in
+    let mean = ap (λ x. messagesReport x .values) (meant (start .args .k) (start .pre .1) answered (v .1)) in
     let only = c .before .before .before .apply-valid3 in
     let did = one-obeyed (start .args .k) (start .args .table .now) (v .0 .0) _ (only .result) (sym mean) (only .ensures .0) (only .ensures .1) in
     (ap withLevels (c .levels-of2 .ensures) ∙ did .0, did .1)

@@ -31,8 +31,9 @@ enum-known-k c = search needs
 obey-requires : tie.Need-obey-requires
 obey-requires c κs =
     let k = c .before .before .k .given in
-    let code = c .before .before .before .before .before .before .before .before .before .before .before .args .code .now in
-    (fine (c .before .before .before .before .before .before .valid .ensures) (c .before .before .before .before .before .if2 .left), read-as (k .0 .0) code (sym (c .before .before .before .before .read .ensures .0) ∙ k .1) .0)
+    let read = c .before .before .before .before in
+    let code = read .before .before .before .before .before .before .before .args .code .now in
+    (fine (read .before .before .valid .ensures) (read .before .if2 .left), read-as (k .0 .0) code (sym (read .read .ensures .0) ∙ k .1) .0)
 
 enum-known-why : tie.Need-enum-known-why
 enum-known-why c = search needs
@@ -43,9 +44,11 @@ same-length-2 c = search needs
 returns-3 : tie.Need-returns-3
 returns-3 c =
     let k = c .before .before .before .before .before .k .given in
-    let a = c .before .before .before .before .before .before .before .before .before .before .before .before .before .before .args in
-    let ok = fine (c .before .before .before .before .before .before .before .before .before .valid .ensures) (c .before .before .before .before .before .before .before .before .if2 .left) in
-    let did = read-obeyed (a .code .now) (a .table .now) ok (c .before .before .before .before .before .before .before .read .ensures .0) (k .0 .0) _ (c .before .before .obey .result) (k .1) (c .before .before .obey .ensures) in
+    let read = c .before .before .before .before .before .before .before in
+    let a = read .before .before .before .before .before .before .before .args in
+    let ok = fine (read .before .before .valid .ensures) (read .before .if2 .left) in
+    let obeyed = c .before .before .obey in
+    let did = read-obeyed (a .code .now) (a .table .now) ok (read .read .ensures .0) (k .0 .0) _ (obeyed .result) (k .1) (obeyed .ensures) in
     (did .0, (radio-reported (a .code .now) (record { modules = a .table .now }) (did .0), did .1))
 
 same-length-3 : tie.Need-same-length-3
@@ -53,9 +56,11 @@ same-length-3 c = search needs
 
 returns-4 : tie.Need-returns-4
 returns-4 c =
-    let a = c .before .before .before .before .before .before .before .before .before .before .args in
-    let ok = fine (c .before .before .before .before .before .valid .ensures) (c .before .before .before .before .if2 .left) in
-    let did = not-read (a .code .now) (a .table .now) ok (c .before .before .before .read .ensures .0) (c .before .why .given .0 .0) (c .before .why .given .1) in
+    let why = c .before .why .given in
+    let read = c .before .before .before in
+    let a = read .before .before .before .before .before .before .before .args in
+    let ok = fine (read .before .before .valid .ensures) (read .before .if2 .left) in
+    let did = not-read (a .code .now) (a .table .now) ok (read .read .ensures .0) (why .0 .0) (why .1) in
     (did .0, (radio-reported (a .code .now) (record { modules = a .table .now }) (did .0), did .1))
 
 pub radio-route-spec : {M : Type 1} → statement M

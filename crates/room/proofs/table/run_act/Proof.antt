@@ -22,7 +22,8 @@ same-length c = search needs
 returns : tie.Need-returns
 returns c =
     let stepped = c .before .before .before .before .before .before .before in
-    ran _ _ _ _ _ _ _ _ (stepped .before .before .house-at .ensures) (c .before .before .before .house-after .ensures) (stepped .step-house .ensures) (c .before .before .put-house .ensures)
+    ran _ _ _ _ _ _ _ _ (stepped .before .before .house-at .ensures)
+    (c .before .before .before .house-after .ensures) (stepped .step-house .ensures) (c .before .before .put-house .ensures)
 
 pub run-act-spec : {M : Type 1} → statement M
 run-act-spec =

@@ -41,7 +41,9 @@ loop-less c = omega arith
 loop-again : tie.Need-loop-again Inv-loop μ-loop
 loop-again c =
     let start = c .before .before .before .before .before .before .before in
-    turn-next _ _ _ _ _ _ _ (c .before .before .before .before .before .loop .inv) _ _ (start .pre .0) (start .pre .1) (c .before .before .before .before .loop-test .taken) (c .before .before .step-at .ensures)
+    let loop = c .before .before .before .before .before .loop in
+    turn-next _ _ _ _ _ _ _ (loop .inv) _ _ (start .pre .0) (start .pre .1)
+    (c .before .before .before .before .loop-test .taken) (c .before .before .step-at .ensures)
 
 same-length : tie.Need-same-length Inv-loop μ-loop
 same-length c = turn-length _ _ _ _ _ _ _ (c .before .loop .inv)
