@@ -1,3 +1,0 @@
-pub mod Carried
-pub mod Bursts
-pub mod Press

@@ -1,0 +1,6 @@
+pub mod TableLaws
+pub mod HouseLaws
+pub mod ApplyLaws
+pub mod Levels
+pub mod RadioLaws
+pub mod MainsLaws

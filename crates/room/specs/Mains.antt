@@ -1,0 +1,111 @@
+-- The mains route: half-cycles through the receiver in lent bytes, one after the other, and each message that it gives applied to the room
+-- before the next. It is given what a receiver is given (wire's Receivers) and a buffer for what the table answers.
+use Prim.Native.Nat.{ℕ, _*_, _/_, _%_, _^_}
+use mathlib.Core.Path.{_≡_}
+use mathlib.Core.List.{List, [], _∷_, _++_, flatMap}
+use lib.Dec.{leb}
+use lib.ListN.{length, drop}
+use Rattle.ground.specs.Refusals.{Report, reports, refuses, Cause, unless, judged, numberGiven, lowest}
+use Rattle.ground.specs.declared.Refusal.the-variants as refusal
+use Rattle.receiver.specs.declared.Event.{Event}
+use Rattle.receiver.specs.declared.Event.the-variants.{Nothing, Message as Gives, Repeat, BrokenPair, BrokenUnsupported, Refused as Stays}
+use Rattle.wire.specs.Packed.{packed}
+use Rattle.wire.specs.Receivers.{holdsReceiver, eventBytes, eventsHeard, bytesAfter}
+use Rattle.room.specs.Rooms.{Room, changes, roomAfter, applyAnswer, tallied}
+use Rattle.room.specs.Routes.{roomCauses}
+use Rattle.room.specs.declared.RoomAnswer.{RoomAnswer}
+use Rattle.room.specs.declared.RoomAnswer.the-variants.{Done, Refused}
+
+-- ---- one event
+
+-- the room after an event: MESSAGE is applied, and REPEAT is not
+abbrev pub eventRoom : Event → Room → Room
+eventRoom (Gives m) room = roomAfter m room
+eventRoom Nothing room = room
+eventRoom Repeat room = room
+eventRoom BrokenPair room = room
+eventRoom BrokenUnsupported room = room
+eventRoom (Stays why) room = room
+
+-- what the table answers to it, as one number: 0 where there is no message, and 4 for one that is not carried
+abbrev pub eventAnswer : Event → Room → ℕ
+eventAnswer (Gives m) room = packed (tallied (applyAnswer m room))
+eventAnswer Nothing room = 0
+eventAnswer Repeat room = 0
+eventAnswer BrokenPair room = 0
+eventAnswer BrokenUnsupported room = 0
+eventAnswer (Stays why) room = 0
+
+-- that number in eight bytes, the lowest first
+abbrev pub answerBytes : ℕ → List ℕ
+answerBytes n =
+    n % 256 ∷ (n / 2 ^ 8 % 256) ∷ (n / 2 ^ 16 % 256) ∷ (n / 2 ^ 24 % 256)
+    ∷ (n / 2 ^ 32 % 256) ∷ (n / 2 ^ 40 % 256) ∷ (n / 2 ^ 48 % 256) ∷ (n / 2 ^ 56 % 256) ∷ []
+
+-- ---- events one after the other
+
+unfoldable pub roomHeard : List Event → Room → Room
+roomHeard [] room = room
+roomHeard (e ∷ es) room = roomHeard es (eventRoom e room)
+
+unfoldable pub answersHeard : List Event → Room → List ℕ
+answersHeard [] room = []
+answersHeard (e ∷ es) room = answerBytes (eventAnswer e room) ++ answersHeard es (eventRoom e room)
+
+-- ---- a call
+
+-- what is lent beside the table
+pub record Lending : Type 0 where
+  pub state : List ℕ
+  pub halves : List ℕ
+  pub events : List ℕ
+  pub answers : List ℕ
+
+abbrev pub lentTo : List ℕ → List ℕ → List ℕ → List ℕ → Lending
+lentTo state halves events answers = record { state = state; halves = halves; events = events; answers = answers }
+
+abbrev pub eventCauses : Lending → List Cause
+eventCauses l = unless (leb (6 * length (l .halves)) (length (l .events))) refusal.Short ∷ []
+
+-- 1 and 3; 6 for a receiver in no state that there is; 9 where the answers, eight bytes each, or the events, six, have no room
+abbrev pub mainsCauses : Lending → Room → List Cause
+mainsCauses l room =
+    roomCauses room
+    ++ (unless (holdsReceiver (l .state)) refusal.State
+    ∷ unless (leb (8 * length (l .halves)) (length (l .answers))) refusal.Short
+    ∷ eventCauses l)
+
+-- the events of the half-cycles, and the room once their messages have been applied
+abbrev pub heard : Lending → List Event
+heard l = eventsHeard (l .state) (l .halves)
+
+abbrev pub mainsRoom : Lending → Room → Room
+mainsRoom l room = roomHeard (heard l) room
+
+-- the answer: the count is over the whole call, and a message that is not carried is no refusal of it
+unfoldable pub mainsAnswer : Lending → Room → RoomAnswer
+mainsAnswer l room = judged (mainsCauses l room) (Done (changes room (mainsRoom l room))) Refused
+
+-- its number and count
+abbrev pub mainsReport : Lending → Room → Report ℕ
+mainsReport l room = judged (mainsCauses l room) (reports (changes room (mainsRoom l room) .levels ∷ [])) refuses
+
+-- the room that is left
+unfoldable pub mainsAfter : Lending → Room → Room
+mainsAfter l room = judged (mainsCauses l room) (mainsRoom l room) (λ why. room)
+
+-- and what else is lent: the receiver after the last half-cycle, its events and the table's answers; bytes beyond them stay
+abbrev pub mainsLent : Lending → Room → Lending
+mainsLent l room = record {
+  state = bytesAfter (l .state) (l .halves);
+  halves = l .halves;
+  events = flatMap eventBytes (heard l) ++ drop (6 * length (l .halves)) (l .events);
+  answers = answersHeard (heard l) room ++ drop (8 * length (l .halves)) (l .answers);
+}
+
+unfoldable pub lentAfter : Lending → Room → Lending
+lentAfter l room = judged (mainsCauses l room) (mainsLent l room) (λ why. l)
+
+-- "Within one routine the lowest number that applies is given.": proofs/MainsLaws.antt
+abbrev pub MainsLowest : Type 0
+MainsLowest = (l : Lending) (room : Room) → lowest (mainsCauses l room) ≡ numberGiven (mainsCauses l room)

@@ -1,0 +1,173 @@
+// The lent bytes of a module table: whether they keep its rules, and an act run on the records of a house. What stands here takes a
+// table of the right length for granted.
+use plan::Act;
+use record::HEARD_AT;
+use record::HOUSES;
+use record::House;
+use record::RECORD_BYTES;
+use record::RECORDS;
+use record::Record;
+use record::TABLE_BYTES;
+use record::UNITS;
+use record::house_valid;
+use record::step::house_after;
+use record::step::step;
+ghost use mathlib.Core.Path.{_≡_};
+ghost use Prim.Native.Nat.{_<_};
+ghost use lib.ListN.{length};
+ghost use Rattle.record.specs.Layout.{RECORDS, HOUSES, UNITS, TABLE-BYTES, recordAt, put, houseAt, putHouse};
+ghost use Rattle.record.specs.ModuleTable.{recordOk, houseOk, recordsOk, housesOk, tableOk, stepHouse, runAct, changed};
+ghost use Rattle.room.specs.Lent.{Stepped};
+
+// Record i of a table.
+fn load(t: &[u8], i: usize) -> Record
+    requires { ⌜ (length (now t) ≡ TABLE-BYTES) × (i < RECORDS) ⌝ }
+    ensures { λ r. ⌜ r ≡ recordAt (now (t .entry)) i ⌝ }
+{
+    let at = i * RECORD_BYTES;
+    Record {
+        kind: t[at],
+        level: t[at + 1],
+        addressed: t[at + 2],
+        mask: t[at + 3],
+        preset0: t[at + 4],
+        preset1: t[at + 5],
+        preset2: t[at + 6],
+        preset3: t[at + 7],
+    }
+}
+
+// Puts a record at place i of a table.
+fn store(t: &mut [u8], i: usize, r: Record)
+    requires { ⌜ (length (now t) ≡ TABLE-BYTES) × (i < RECORDS) ⌝ }
+    ensures { λ _. ⌜ now (t .exit) ≡ put (now (t .entry)) i r ⌝ }
+{
+    let at = i * RECORD_BYTES;
+    t[at] = r.kind;
+    t[at + 1] = r.level;
+    t[at + 2] = r.addressed;
+    t[at + 3] = r.mask;
+    t[at + 4] = r.preset0;
+    t[at + 5] = r.preset1;
+    t[at + 6] = r.preset2;
+    t[at + 7] = r.preset3;
+}
+
+// The bytes of a house beside its records': read here, and written below, and nowhere else.
+fn house_at(t: &[u8], house: usize) -> House
+    requires { ⌜ (length (now t) ≡ TABLE-BYTES) × (house < HOUSES) ⌝ }
+    ensures { λ r. ⌜ r ≡ houseAt (now (t .entry)) house ⌝ }
+{
+    House {
+        heard: t[HEARD_AT + house],
+    }
+}
+
+fn put_house(t: &mut [u8], house: usize, own: House)
+    requires { ⌜ (length (now t) ≡ TABLE-BYTES) × (house < HOUSES) ⌝ }
+    ensures { λ _. ⌜ now (t .exit) ≡ putHouse (now (t .entry)) house own ⌝ }
+{
+    t[HEARD_AT + house] = own.heard;
+}
+
+// Whether record i of a table keeps the rules.
+fn record_ok(t: &[u8], i: usize) -> bool
+    requires { ⌜ (length (now t) ≡ TABLE-BYTES) × (i < RECORDS) ⌝ }
+    ensures { λ r. ⌜ r ≡ recordOk (recordAt (now (t .entry)) i) ⌝ }
+{
+    let at = i * RECORD_BYTES;
+    record::valid(
+        t[at],
+        t[at + 1],
+        t[at + 2],
+        t[at + 3],
+        t[at + 4],
+        t[at + 5],
+        t[at + 6],
+        t[at + 7],
+    )
+}
+
+// Whether each record keeps the rules. Every one is tested: with no early way out the tests run side by side.
+fn records_ok(t: &[u8]) -> bool
+    requires { ⌜ length (now t) ≡ TABLE-BYTES ⌝ }
+    ensures { λ r. ⌜ r ≡ recordsOk RECORDS (now (t .entry)) ⌝ }
+{
+    let mut ok = true;
+    let mut i = 0;
+    while i < RECORDS {
+        ok = ok & record_ok(t, i);
+        i += 1;
+    }
+    ok
+}
+
+// Whether a house's own bytes keep the rules.
+fn house_ok(t: &[u8], house: usize) -> bool
+    requires { ⌜ (length (now t) ≡ TABLE-BYTES) × (house < HOUSES) ⌝ }
+    ensures { λ r. ⌜ r ≡ houseOk (houseAt (now (t .entry)) house) ⌝ }
+{
+    let own = house_at(t, house);
+    house_valid(own.heard)
+}
+
+// Whether each house's own bytes do.
+fn houses_ok(t: &[u8]) -> bool
+    requires { ⌜ length (now t) ≡ TABLE-BYTES ⌝ }
+    ensures { λ r. ⌜ r ≡ housesOk HOUSES (now (t .entry)) ⌝ }
+{
+    let mut ok = true;
+    let mut h = 0;
+    while h < HOUSES {
+        ok = ok & house_ok(t, h);
+        h += 1;
+    }
+    ok
+}
+
+// Whether the bytes are a table that keeps the rules.
+pub(crate) fn valid(t: &[u8]) -> bool
+    ensures { λ r. ⌜ r ≡ tableOk (now (t .entry)) ⌝ }
+{
+    if t.len() != TABLE_BYTES {
+        return false;
+    }
+    records_ok(t) & houses_ok(t)
+}
+
+// Steps record i of a table, as that of unit n, and answers 1 where its level changed.
+fn step_at(t: &mut [u8], i: usize, act: Act, own: House, n: u8) -> usize
+    requires { ⌜ (length (now t) ≡ TABLE-BYTES) × (i < RECORDS) ⌝ }
+    ensures { λ r. ⌜ Stepped act own n i (now (t .entry)) (now (t .exit)) r ⌝ }
+{
+    let before = load(t, i);
+    let after = step(act, own, n, before);
+    store(t, i, after);
+    if before.level == after.level { 0 } else { 1 }
+}
+
+// Steps the sixteen records of a house, and answers how many levels changed.
+fn step_house(t: &mut [u8], house: usize, act: Act, own: House) -> usize
+    requires { ⌜ (length (now t) ≡ TABLE-BYTES) × (house < HOUSES) ⌝ }
+    ensures { λ r. ⌜ (now (t .exit) ≡ stepHouse UNITS act own house (now (t .entry))) × (r ≡ changed RECORDS (now (t .entry)) (now (t .exit))) ⌝ }
+{
+    let first = house * UNITS;
+    let mut count: usize = 0;
+    let mut n: usize = 0;
+    while n < UNITS {
+        count = count + step_at(t, first + n, act, own, n as u8);
+        n += 1;
+    }
+    count
+}
+
+// Runs an act for a house: its sixteen records, and then its own bytes. Answers how many levels changed.
+pub(crate) fn run_act(t: &mut [u8], house: usize, act: Act) -> usize
+    requires { ⌜ (length (now t) ≡ TABLE-BYTES) × (house < HOUSES) ⌝ }
+    ensures { λ r. ⌜ (now (t .exit) ≡ runAct act house (now (t .entry))) × (r ≡ changed RECORDS (now (t .entry)) (now (t .exit))) ⌝ }
+{
+    let own = house_at(t, house);
+    let count = step_house(t, house, act, own);
+    put_house(t, house, house_after(act, own));
+    count
+}

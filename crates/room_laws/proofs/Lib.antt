@@ -1,0 +1,6 @@
+pub mod ReachLaws
+pub mod Theorems
+pub mod Carried
+pub mod Bursts
+pub mod Press
+pub mod Slices

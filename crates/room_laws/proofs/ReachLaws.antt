@@ -1,0 +1,106 @@
+-- Laws of what an act reaches, and of what it counts.
+--
+--     byte-of-record      a byte of a table as a byte of its record
+--     step-changed        at most one level changes a step
+--     step-unreached      a record that an act does not reach stays
+use mathlib.Core.Path.{_≡_, refl, sym, ap}
+use mathlib.Core.Bool.{Bool, true, false, _&&_, _||_, true≢false}
+use mathlib.Core.List.{List}
+use Prim.Native.Nat.{ℕ, zero, suc, _+_, _*_, _≤_, _<_}
+use native.Mathlib.Nat.{add-zero}
+use native.Mathlib.Omega.{arith}
+use lib.Dec.{eqb}
+use lib.ListN.{length, getD}
+use Rattle.ground.specs.Choice.{pick}
+use Rattle.ground.proofs.Choices.{pick-both}
+use Rattle.message.specs.declared.Function.{Function}
+use Rattle.message.specs.declared.Function.the-variants.{AllUnitsOff, AllLightsOn, On, Off, Dim, Bright, AllLightsOff, HailRequest, HailAcknowledge}
+use Rattle.message.specs.declared.Function.the-variants.{StatusOn, StatusOff, StatusRequest}
+use Rattle.plan.specs.declared.Act.{Act}
+use Rattle.plan.specs.declared.Act.the-variants.{Nothing, Address, Obey, Join, Level, JoinAt, UnitsOn, UnitsOff, Leave, LeaveHouse, Execute, GroupOff}
+use Rattle.plan.specs.declared.Act.the-variants.{GroupDim, GroupBright}
+use Rattle.record.specs.declared.Record.{Record}
+use Rattle.record.specs.declared.House.{House}
+use Rattle.record.specs.Layout.{RECORD-BYTES, UNITS, HOUSES, RECORDS, TABLE-BYTES, recordAt, bytesOf, present, lamp, member, preset, withAddressed}
+use Rattle.record.specs.ModuleTable.{relevel, lit, dimmed, brightened, addressed, obeyed, levelFor, joined, left, acted, stepRecord, stepHouse, changed}
+use Rattle.room.proofs.TableLaws.{changed-none, changed-put, length-step, step-other}
+use Rattle.room_laws.specs.Statements.{hears, reaches}
+
+pub byte-of-record : (t : List ℕ) (i k : ℕ) → k < RECORD-BYTES → getD t (i * RECORD-BYTES + k) 0 ≡ getD (bytesOf (recordAt t i)) k 0
+unfolding recordAt
+byte-of-record t i zero h = ap (λ (j : ℕ). getD t j 0) (add-zero (i * RECORD-BYTES))
+byte-of-record t i (suc zero) h = refl
+byte-of-record t i (suc (suc zero)) h = refl
+byte-of-record t i (suc (suc (suc zero))) h = refl
+byte-of-record t i (suc (suc (suc (suc zero)))) h = refl
+byte-of-record t i (suc (suc (suc (suc (suc zero))))) h = refl
+byte-of-record t i (suc (suc (suc (suc (suc (suc zero)))))) h = refl
+byte-of-record t i (suc (suc (suc (suc (suc (suc (suc zero))))))) h = refl
+byte-of-record t i (suc (suc (suc (suc (suc (suc (suc (suc k)))))))) h = absurd (omega arith)
+
+pub step-changed : (a : Act) (own : House) (h : ℕ) (t : List ℕ) (n : ℕ) → n ≤ UNITS → h < HOUSES → length t ≡ TABLE-BYTES
+    → changed RECORDS t (stepHouse n a own h t) ≤ n
+unfolding stepHouse
+step-changed a own h t zero room house size = rw (changed-none RECORDS t) (omega arith)
+step-changed a own h t (suc n) room house size =
+    let s = stepHouse n a own h t in
+    let i = h * UNITS + n in
+    let r = stepRecord a own n (recordAt s i) in
+    let few = step-changed a own h t n (omega arith) house size in
+    let same = eqb (recordAt s i .level) (r .level) in
+    let one : pick same 0 1 ≤ 1 = pick-both (λ x. x ≤ 1) same 0 1 (omega arith) (omega arith) in
+    rw (changed-put RECORDS i t s r (omega arith) (omega (arith, length-step a own h t n)) (sym (step-other a own h t n i (λ k hk e. omega arith))))
+    (omega arith)
+
+-- ---- a record that an act does not reach
+
+-- a level that is not changed
+unlevelled : (b : Bool) (x : ℕ) (r : Record) → b ≡ false → relevel b x r ≡ r
+unlevelled b x r e = rw e
+
+-- a record that is not chosen
+unchosen : (b : Bool) (s r : Record) → b ≡ false → pick b s r ≡ r
+unchosen b s r e = rw e
+
+unheard : (f : Function) (r : Record) → hears f r ≡ false → obeyed f r ≡ r
+unheard On r e = unlevelled (addressed r) (lit (r .level)) r e
+unheard Off r e = unlevelled (addressed r) 0 r e
+unheard Dim r e = unlevelled (addressed r && lamp r) (dimmed (r .level)) r e
+unheard Bright r e = unlevelled (addressed r && lamp r) (brightened (r .level)) r e
+unheard AllLightsOn r e = unlevelled (lamp r) 63 r e
+unheard AllLightsOff r e = unlevelled (lamp r) 0 r e
+unheard AllUnitsOff r e = absurd (true≢false e)
+unheard HailRequest r e = refl
+unheard HailAcknowledge r e = refl
+unheard StatusOn r e = refl
+unheard StatusOff r e = refl
+unheard StatusRequest r e = refl
+
+unreached : (a : Act) (own : House) (n : ℕ) (r : Record) → reaches a own n r ≡ false → acted a own n r ≡ r
+unreached Nothing own n r e = refl
+unreached (Address u) own n r e = go (eqb n u) (eqb (own .heard) 1) e
+  where
+    go : (b c : Bool) → (b || c) ≡ false → withAddressed (pick b 1 (pick c 0 (r .addressed))) r ≡ r
+    go true c q = absurd (true≢false q)
+    go false true q = absurd (true≢false q)
+    go false false q = refl
+unreached (Obey f) own n r e = unheard f r e
+unreached (Join u g) own n r e = unchosen (eqb n u) (joined g (r .level) r) r e
+unreached (Level u b) own n r e = unlevelled (eqb n u) (levelFor b r) r e
+unreached (JoinAt u g b) own n r e = unchosen (eqb n u) (joined g (levelFor b r) r) r e
+unreached UnitsOn own n r e = absurd (true≢false e)
+unreached UnitsOff own n r e = absurd (true≢false e)
+unreached (Leave u gs) own n r e = unchosen (eqb n u) (left gs r) r e
+unreached (LeaveHouse gs) own n r e = absurd (true≢false e)
+unreached (Execute g) own n r e = unlevelled (member g r) (preset g r) r e
+unreached (GroupOff g) own n r e = unlevelled (member g r) 0 r e
+unreached (GroupDim g) own n r e = unlevelled (member g r && lamp r) (dimmed (r .level)) r e
+unreached (GroupBright g) own n r e = unlevelled (member g r && lamp r) (brightened (r .level)) r e
+
+pub step-unreached : (a : Act) (own : House) (n : ℕ) (r : Record) → (present r && reaches a own n r) ≡ false → stepRecord a own n r ≡ r
+unfolding stepRecord
+step-unreached a own n r = go (present r)
+  where
+    go : (b : Bool) → (b && reaches a own n r) ≡ false → pick b (acted a own n r) r ≡ r
+    go true e = unreached a own n r e
+    go false e = refl

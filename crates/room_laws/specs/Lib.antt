@@ -1,0 +1,4 @@
+pub mod Statements
+pub mod Demand2
+pub mod Slices
+pub mod Press

@@ -1,0 +1,122 @@
+-- What holds of every message m applied to every room (01, 'The module table'). By the contract of `apply`, `roomAfter m room` is the room
+-- that is left, and `applyAnswer m room` the answer. That a valid room stays valid is in room's Statements.
+use Prim.Native.Nat.{ℕ, _+_, _*_, _/_, _%_, _≤_, _<_}
+use mathlib.Core.Path.{_≡_}
+use mathlib.Core.Bool.{Bool, true, false, _&&_, _||_}
+use lib.Dec.{eqb}
+use lib.ListN.{length, getD}
+use Rattle.message.specs.declared.Function.{Function}
+use Rattle.message.specs.declared.Function.the-variants.{AllUnitsOff, AllLightsOn, On, Off, Dim, Bright, AllLightsOff, HailRequest, HailAcknowledge}
+use Rattle.message.specs.declared.Function.the-variants.{StatusOn, StatusOff, StatusRequest}
+use Rattle.message.specs.declared.Message.{Message}
+use Rattle.message.specs.declared.Message.the-variants.{Extended}
+use Rattle.plan.specs.Plans.{houseOf, planOf}
+use Rattle.plan.specs.declared.Act.{Act}
+use Rattle.plan.specs.declared.Act.the-variants.{Nothing, Address, Obey, Join, Level, JoinAt, UnitsOn, UnitsOff, Leave, LeaveHouse, Execute, GroupOff}
+use Rattle.plan.specs.declared.Act.the-variants.{GroupDim, GroupBright}
+use Rattle.plan.specs.declared.Plan.{Plan}
+use Rattle.plan.specs.declared.Plan.the-variants.{Run, Refused}
+use Rattle.record.specs.declared.Record.{Record}
+use Rattle.record.specs.declared.House.{House}
+use Rattle.record.specs.Layout.{RECORD-BYTES, UNITS, RECORDS, HEARD-AT, recordAt, houseAt, present, lamp, member}
+use Rattle.record.specs.ModuleTable.{addressed, stepRecord, houseAfter}
+use Rattle.room.specs.Rooms.{Room, roomAfter, applyAnswer, roomReport, levelsOf}
+
+-- ---- what a message is about
+
+-- the bytes of a house: those of its sixteen records, and its own
+abbrev pub ownByte : ℕ → ℕ → Bool
+ownByte h k = eqb (k / (UNITS * RECORD-BYTES)) h || eqb k (HEARD-AT + h)
+
+-- the modules that a function reaches
+abbrev pub hears : Function → Record → Bool
+hears On r = addressed r
+hears Off r = addressed r
+hears Dim r = addressed r && lamp r
+hears Bright r = addressed r && lamp r
+hears AllLightsOn r = lamp r
+hears AllLightsOff r = lamp r
+hears AllUnitsOff r = true
+hears HailRequest r = false
+hears HailAcknowledge r = false
+hears StatusOn r = false
+hears StatusOff r = false
+hears StatusRequest r = false
+
+-- whether an act reaches the module of unit n, by the house's own bytes
+abbrev pub reaches : Act → House → ℕ → Record → Bool
+reaches Nothing own n r = false
+reaches (Address u) own n r = eqb n u || eqb (own .heard) 1
+reaches (Obey f) own n r = hears f r
+reaches (Join u g) own n r = eqb n u
+reaches (Level u b) own n r = eqb n u
+reaches (JoinAt u g b) own n r = eqb n u
+reaches UnitsOn own n r = true
+reaches UnitsOff own n r = true
+reaches (Leave u gs) own n r = eqb n u
+reaches (LeaveHouse gs) own n r = true
+reaches (Execute g) own n r = member g r
+reaches (GroupOff g) own n r = member g r
+reaches (GroupDim g) own n r = member g r && lamp r
+reaches (GroupBright g) own n r = member g r && lamp r
+
+-- whether a plan concerns the record of unit n: a module is there, and the act reaches it
+abbrev pub planConcerns : Plan → House → ℕ → Record → Bool
+planConcerns (Run a) own n r = present r && reaches a own n r
+planConcerns (Refused why) own n r = false
+
+-- whether a message concerns record i of a room
+abbrev pub concerns : Message → Room → ℕ → Bool
+concerns m room i =
+    eqb (i / UNITS) (houseOf m)
+    && planConcerns (planOf m) (houseAt (room .modules) (houseOf m)) (i % UNITS) (recordAt (room .modules) i)
+
+-- what a plan makes of the record of unit n, and of the house's own bytes
+abbrev pub planned : Plan → House → ℕ → Record → Record
+planned (Run a) own n r = stepRecord a own n r
+planned (Refused why) own n r = r
+
+abbrev pub plannedHouse : Plan → House → House
+plannedHouse (Run a) own = houseAfter a own
+plannedHouse (Refused why) own = own
+
+-- ---- the statements
+
+-- a message changes only records of its own house and that house's own bytes
+abbrev pub OwnHouseOnly : Type 0
+OwnHouseOnly =
+    (m : Message) (room : Room)
+    → (length (roomAfter m room .modules) ≡ length (room .modules))
+    × ((k : ℕ) → ownByte (houseOf m) k ≡ false → getD (roomAfter m room .modules) k 0 ≡ getD (room .modules) k 0)
+
+-- a record that a message does not concern stays equal, byte by byte; so absent units stay all zeros
+abbrev pub OthersStay : Type 0
+OthersStay =
+    (m : Message) (room : Room) (i k : ℕ) → i < RECORDS → k < RECORD-BYTES → concerns m room i ≡ false
+    → getD (roomAfter m room .modules) (i * RECORD-BYTES + k) 0 ≡ getD (room .modules) (i * RECORD-BYTES + k) 0
+
+-- where nothing is refused, each record is what the plan makes of it, and so are the house's own bytes
+pub record ByPlan (m : Message) (room : Room) : Type 0 where
+  pub records : (n : ℕ) → n < UNITS
+      → recordAt (roomAfter m room .modules) (houseOf m * UNITS + n)
+      ≡ planned (planOf m) (houseAt (room .modules) (houseOf m)) n (recordAt (room .modules) (houseOf m * UNITS + n))
+  pub house : houseAt (roomAfter m room .modules) (houseOf m) ≡ plannedHouse (planOf m) (houseAt (room .modules) (houseOf m))
+
+abbrev pub RecordByRecord : Type 0
+RecordByRecord = (m : Message) (room : Room) → roomReport (applyAnswer m room) .number ≡ 0 → ByPlan m room
+
+-- a refused message changes nothing, and its count is 0
+abbrev pub RefusedStays : Type 0
+RefusedStays =
+    (m : Message) (room : Room) → (roomReport (applyAnswer m room) .number ≡ 0 → ⊥) → (roomAfter m room ≡ room) × (levelsOf (applyAnswer m room) ≡ 0)
+
+-- the count is at most 16
+abbrev pub CountAtMost16 : Type 0
+CountAtMost16 = (m : Message) (room : Room) → levelsOf (applyAnswer m room) ≤ UNITS
+
+-- extended commands "never touch addressing or house bytes"
+abbrev pub ExtendedKeeps : Type 0
+ExtendedKeeps =
+    (h u d c : ℕ) (room : Room) → let after = roomAfter (Extended h u d c) room .modules in
+    ((i : ℕ) → i < RECORDS → recordAt after i .addressed ≡ recordAt (room .modules) i .addressed)
+    × ((g : ℕ) → houseAt after g .heard ≡ houseAt (room .modules) g .heard)

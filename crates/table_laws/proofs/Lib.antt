@@ -1,3 +1,0 @@
-pub mod HouseLaws
-pub mod Outcomes
-pub mod Theorems
