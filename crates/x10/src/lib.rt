@@ -12,10 +12,10 @@ use radio::RadioRead;
 use radio::read;
 use radio::write;
 use record::TABLE_BYTES;
-use room::RoomAnswer;
 use room::apply;
-use room::routes::mains_route;
+use room::mains::mains_route;
 use room::routes::radio_route;
+use room::tally;
 use wire::MessageRead;
 use wire::message_from;
 use wire::pack;
@@ -28,7 +28,8 @@ ghost use lib.Seq.{sets};
 ghost use Rattle.wire.specs.Messages.{messageFrom};
 ghost use Rattle.wire.specs.Packed.{packed};
 ghost use Rattle.wire.specs.Receivers.{freshAnswer, freshAfter, receiveAnswer, stateAfter, eventsAfter};
-ghost use Rattle.room.specs.Rooms.{roomOf};
+ghost use Rattle.room.specs.Rooms.{roomOf, tallied};
+ghost use Rattle.room.specs.Mains.{lentTo, mainsAnswer, mainsAfter, lentAfter};
 ghost use Rattle.room.specs.Routes.{radioAnswer, radioAfter};
 ghost use Rattle.bench_run.specs.BenchRuns.{lent, runAnswer, linesAfter, marksAfter};
 ghost use Rattle.x10.specs.Commands.{commandFrom, commandBytes};
@@ -170,6 +171,27 @@ pub extern "C" fn x10_radio_route(table: &mut [u8], code: &[u8]) -> u64
     ensures room { λ _. ⌜ roomOf (now (table .exit)) ≡ radioAfter (now (code .entry)) (roomOf (now (table .entry))) ⌝ }
 {
     pack(tally(radio_route(table, code)))
+}
+
+// Hands half-cycles to the receiver in eleven lent bytes and applies each message that it gives to a lent module table; each half-cycle
+// leaves the six bytes of its event and the eight of the table's answer. The count is of the modules whose level differs. Refused 1, 3, 6, 9.
+#[no_mangle]
+pub extern "C" fn x10_mains_route(
+    state: &mut [u8],
+    halves: &[u8],
+    table: &mut [u8],
+    events: &mut [u8],
+    answers: &mut [u8],
+) -> u64
+    ensures answer { λ r.
+        ⌜ r ≡ packed (tallied (mainsAnswer (lentTo (now (state .entry)) (now (halves .entry)) (now (events .entry)) (now (answers .entry))) (roomOf (now (table .entry))))) ⌝ }
+    ensures room { λ _.
+        ⌜ roomOf (now (table .exit)) ≡ mainsAfter (lentTo (now (state .entry)) (now (halves .entry)) (now (events .entry)) (now (answers .entry))) (roomOf (now (table .entry))) ⌝ }
+    ensures lent { λ _.
+        ⌜ lentTo (now (state .exit)) (now (halves .entry)) (now (events .exit)) (now (answers .exit))
+        ≡ lentAfter (lentTo (now (state .entry)) (now (halves .entry)) (now (events .entry)) (now (answers .entry))) (roomOf (now (table .entry))) ⌝ }
+{
+    pack(tally(mains_route(state, halves, table, events, answers)))
 }
 
 // Loads a station for each draw of loads, and calls the bench once for each byte of lines; the count is of the calls that were not

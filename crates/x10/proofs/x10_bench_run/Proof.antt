@@ -1,7 +1,6 @@
--- `x10_bench_run` meets its contract: it is the run's own promise.
+-- `x10_bench_run` meets its contract: it is the run, its answer packed.
 use mathlib.Core.Path.{ap, _∙_}
-use Rattle.message.specs.Numbers.{Answer}
-use Rattle.x10.specs.Packed.{packed}
+use Rattle.wire.specs.Packed.{packed}
 use borrow.Author.Needs.{needs}
 use Rattle.x10.proofs.x10_bench_run.Statement.{statement}
 use Rattle.x10.proofs.x10_bench_run.Tie as tie
@@ -9,8 +8,8 @@ use Rattle.x10.proofs.x10_bench_run.Tie as tie
 run-requires : tie.Need-run-requires
 run-requires c κs = search needs
 
-pack-bench-requires : tie.Need-pack-bench-requires
-pack-bench-requires c κs = search needs
+pack-requires : tie.Need-pack-requires
+pack-requires c κs = search needs
 
 same-length : tie.Need-same-length
 same-length c = search needs
@@ -19,10 +18,8 @@ same-length-2 : tie.Need-same-length-2
 same-length-2 c = search needs
 
 returns : tie.Need-returns
-returns c =
-    let did = c .before .before .before .before .before .run .ensures in
-    (c .pack-bench .ensures ∙ ap (λ (a : Answer). packed (a .number) (a .count)) (did .0), did .1)
+returns c = let did = c .before .before .before .before .before .run .ensures in (c .pack .ensures ∙ ap packed (did .0), (did .1 .1 .0, did .1 .1 .1))
 
 pub x10-bench-run-spec : {M : Type 1} → statement M
 x10-bench-run-spec =
-    tie.close (tie.spec run-requires pack-bench-requires same-length same-length-2 returns)
+    tie.close (tie.spec run-requires pack-requires same-length same-length-2 returns)

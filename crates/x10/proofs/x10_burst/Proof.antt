@@ -1,7 +1,6 @@
--- `x10_burst` meets its contract: the writer's own promise for the message that the numbers say, and 2 where they say none.
-use mathlib.Core.Path.{sym, ap, _∙_}
-use Rattle.message.specs.Numbers.{Answer}
-use Rattle.x10.specs.Packed.{packed}
+-- `x10_burst` meets its contract: what the numbers are read as, and then the writer's own promise.
+use mathlib.Core.Path.{refl, sym, ap, _∙_}
+use Rattle.wire.specs.Packed.{packed}
 use borrow.Author.Needs.{needs}
 use Rattle.x10.proofs.x10_burst.Statement.{statement}
 use Rattle.x10.proofs.x10_burst.Tie as tie
@@ -15,26 +14,26 @@ enum-known-m c = search needs
 write-burst-requires : tie.Need-write-burst-requires
 write-burst-requires c κs = search needs
 
-pack-burst-requires : tie.Need-pack-burst-requires
-pack-burst-requires c κs = search needs
-
-enum-told : tie.Need-enum-told
-enum-told c = search needs
-
 pack-requires : tie.Need-pack-requires
 pack-requires c κs = search needs
+
+enum-known-why : tie.Need-enum-known-why
+enum-known-why c = search needs
+
+pack-requires-2 : tie.Need-pack-requires-2
+pack-requires-2 c κs = search needs
 
 same-length : tie.Need-same-length
 same-length c = search needs
 
 returns : tie.Need-returns
 returns c =
-    let says = sym (c .before .before .before .before .before .before .before .before .message-from .ensures) ∙ c .before .before .before .before .before .before .m .given .1 in
-    let wrote = c .before .before .before .write-burst .ensures in
-    (rw says (c .pack-burst .ensures ∙ ap (λ (a : Answer). packed (a .number) (a .count)) (wrote .0)), rw says (wrote .1))
+    let says = sym (c .before .before .before .before .before .before .before .before .message-from .ensures .0) ∙ c .before .before .before .before .before .before .m .given .1 in
+    let did = c .before .before .before .write-burst .ensures in
+    rw says (c .pack .ensures ∙ ap packed (did .0), did .1 .1)
 
 returns-2 : tie.Need-returns-2
-returns-2 c = let says = sym (c .before .before .before .message-from .ensures) ∙ c .before .enum-told .given .1 in (rw says (c .pack .ensures), rw says)
+returns-2 c = rw (sym (c .before .before .before .before .message-from .ensures .0) ∙ c .before .before .why .given .1) (c .pack2 .ensures, refl)
 
 pub x10-burst-spec : {M : Type 1} → statement M
 x10-burst-spec =
@@ -43,9 +42,9 @@ x10-burst-spec =
     message-from-requires
     enum-known-m
     write-burst-requires
-    pack-burst-requires
-    enum-told
     pack-requires
+    enum-known-why
+    pack-requires-2
     same-length
     returns
     returns-2)

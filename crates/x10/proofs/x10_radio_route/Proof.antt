@@ -1,7 +1,7 @@
--- `x10_radio_route` meets its contract: it is the route's own promise.
+-- `x10_radio_route` meets its contract: it is the radio route, its answer packed.
 use mathlib.Core.Path.{ap, _∙_}
-use Rattle.message.specs.Numbers.{Answer}
-use Rattle.x10.specs.Packed.{packed}
+use Rattle.room.specs.Rooms.{tallied}
+use Rattle.wire.specs.Packed.{packed}
 use borrow.Author.Needs.{needs}
 use Rattle.x10.proofs.x10_radio_route.Statement.{statement}
 use Rattle.x10.proofs.x10_radio_route.Tie as tie
@@ -9,15 +9,20 @@ use Rattle.x10.proofs.x10_radio_route.Tie as tie
 radio-route-requires : tie.Need-radio-route-requires
 radio-route-requires c κs = search needs
 
-pack-radio-requires : tie.Need-pack-radio-requires
-pack-radio-requires c κs = search needs
+tally-requires : tie.Need-tally-requires
+tally-requires c κs = search needs
+
+pack-requires : tie.Need-pack-requires
+pack-requires c κs = search needs
 
 same-length : tie.Need-same-length
 same-length c = search needs
 
 returns : tie.Need-returns
-returns c = let did = c .before .before .before .radio-route .ensures in (c .pack-radio .ensures ∙ ap (λ (a : Answer). packed (a .number) (a .count)) (did .0), did .1)
+returns c =
+    let did = c .before .before .before .before .radio-route .ensures in
+    (c .pack .ensures ∙ ap packed (c .before .tally .ensures ∙ ap tallied (did .0)), did .1 .1)
 
 pub x10-radio-route-spec : {M : Type 1} → statement M
 x10-radio-route-spec =
-    tie.close (tie.spec radio-route-requires pack-radio-requires same-length returns)
+    tie.close (tie.spec radio-route-requires tally-requires pack-requires same-length returns)
