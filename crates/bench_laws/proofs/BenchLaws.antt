@@ -7,24 +7,26 @@
 --     bench-number, bench-refuses  a call that its draws refuse
 use mathlib.Core.Path.{_≡_, refl, ap, _∙_}
 use mathlib.Core.Logic.{_⊎_, inl, inr}
-use mathlib.Core.Bool.{Bool, true, false}
+use mathlib.Core.Bool.{Bool, true, false, _&&_}
 use mathlib.Core.List.{List, [], _∷_}
 use Prim.Native.Nat.{ℕ, zero, suc, _-_, _≤_, _<_, max, zero-le, suc-le-suc}
 use native.Mathlib.Nat.{le-of-suc-le-suc, not-suc-le-zero}
 use native.Mathlib.Decide.{decLe}
 use native.Mathlib.Omega.{arith}
 use borrow.Author.Tests.{le-leb}
+use lib.Dec.{leb}
 use lib.ListN.{length, getD, take, drop, replicate, List·getD-append}
 use lib.Seq.{length-take-le, length-front, drop-at, getD-take}
 use Rattle.ground.specs.Choice.{pick}
-use Rattle.message.specs.Numbers.{NONE, DRAW}
 use Rattle.station.specs.declared.Station.{Station}
 use Rattle.station.specs.declared.Turn.{Turn}
 use Rattle.station.specs.Stations.{emptyStation, stationOk, drawOk, sendsOf, turnOf, isDone}
-use Rattle.bench.specs.Benches.{benchNumber, mostStations, lineOf, moveAll, doneAll, stationsOk, drawsOk, benchOk, turnAll, benchOf}
-use Rattle.bench.specs.declared.BenchAnswer.the-variants.{Line, RefusedDraw}
-use Rattle.bench.specs.declared.BenchTurn.{BenchTurn}
-use Rattle.bench.proofs.StationsLaws.{draw-at, line-at, length-moved, length-done}
+use Rattle.station.specs.Benches.{benchReport, mostStations, lineOf, moveAll, doneAll, stationsOk, drawsOk, turnAll, benchRefused, benchOf}
+use Rattle.station.specs.declared.bench.BenchAnswer.the-variants.{Line}
+use Rattle.ground.specs.Refusals.{judged}
+use Rattle.ground.specs.declared.Refusal.the-variants as refusal
+use Rattle.station.specs.declared.bench.BenchTurn.{BenchTurn}
+use Rattle.station.proofs.SlotLaws.{draw-at, line-at, length-moved, length-done}
 
 -- ---- lists of stations
 
@@ -79,26 +81,23 @@ module _ (n : ℕ) (slots : List Station) (draws : List ℕ) (low : 1 ≤ n) (hi
   count : length (take n slots) ≡ n
   count = length-take-le n slots room
 
-  bench-ok : benchOk n slots ≡ true
-  unfolding benchOk
-  bench-ok =
-      simp (
-        le-leb 1 n low,
-        le-leb n mostStations high,
-        ok-all (take n slots) (λ i h. let k : i < n = omega (arith, count) in rw (getD-take n slots i emptyStation k) (ok i k)),
-      )
+  fine-count : (leb 1 n && leb n mostStations) ≡ true
+  fine-count = simp (le-leb 1 n low, le-leb n mostStations high)
 
-  pub bench-refuses : drawsOk (take n draws) ≡ false → benchOf n slots draws ≡ record { answer = RefusedDraw; done = replicate (length slots) false; slots = slots }
-  unfolding benchOf
-  bench-refuses e = simp (bench-ok, e)
+  fine-states : stationsOk (take n slots) ≡ true
+  fine-states = ok-all (take n slots) (λ i h. let k : i < n = omega (arith, count) in rw (getD-take n slots i emptyStation k) (ok i k))
 
-  pub bench-number : benchNumber (benchOf n slots draws .answer) ≡ pick (drawsOk (take n draws)) NONE DRAW
-  unfolding benchOf turnAll
+  pub bench-refuses : drawsOk (take n draws) ≡ false → benchOf n slots draws ≡ benchRefused slots refusal.Draw
+  unfolding benchOf judged
+  bench-refuses e = simp (fine-count, fine-states, e)
+
+  pub bench-number : benchReport (benchOf n slots draws .answer) .number ≡ pick (drawsOk (take n draws)) 0 7
+  unfolding benchOf turnAll judged
   bench-number = go (drawsOk (take n draws)) refl
     where
-      go : (b : Bool) → drawsOk (take n draws) ≡ b → benchNumber (benchOf n slots draws .answer) ≡ pick (drawsOk (take n draws)) NONE DRAW
-      go true e = simp (bench-ok, e)
-      go false e = simp (bench-ok, e)
+      go : (b : Bool) → drawsOk (take n draws) ≡ b → benchReport (benchOf n slots draws .answer) .number ≡ pick (drawsOk (take n draws)) 0 7
+      go true e = simp (fine-count, fine-states, e)
+      go false e = simp (fine-count, fine-states, e)
 
   module _ (enough : n ≤ length draws) (fine : drawsOk (take n draws) ≡ true) where
     drawn : length (take n draws) ≡ n
@@ -142,5 +141,5 @@ module _ (n : ℕ) (slots : List Station) (draws : List ℕ) (low : 1 ≤ n) (hi
         }
 
     pub bench-turns : (h : ℕ) × Turns n slots draws h (benchOf n slots draws)
-    unfolding benchOf
-    bench-turns = (line, simp (bench-ok, fine) all-turn)
+    unfolding benchOf judged
+    bench-turns = (line, simp (fine-count, fine-states, fine) all-turn)

@@ -12,9 +12,10 @@ use Rattle.burst.specs.Frames.{bitsOf, pairsOf, frameOf, burstOf}
 use Rattle.station.specs.Stations.{emptyStation, stationOk, loadOf, loaded, sendsOf, turnOf}
 use Rattle.station.specs.declared.Station.{Station}
 use Rattle.station.specs.declared.LoadAnswer.the-variants.{Loaded}
-use Rattle.bench.specs.Benches.{lineOf, moveAll, doneAll, stationsOk, drawsOk, benchOk, turnAll, benchOf}
-use Rattle.access.specs.Calls.{call, run, Drawn}
-use Rattle.access.specs.Bound.{BoundIsReached}
+use Rattle.station.specs.Benches.{lineOf, moveAll, doneAll, stationsOk, drawsOk, turnAll, benchOf}
+use Rattle.ground.specs.Refusals.{judged}
+use Rattle.bench_run.specs.Calls.{call, run, Drawn}
+use Rattle.bench_laws.specs.Bound.{BoundIsReached}
 
 abbrev message : ℕ → Message
 message i = Extended i 0 0 0
@@ -26,13 +27,13 @@ abbrev calls : ℕ → List (List ℕ)
 calls k = replicate k (10 ∷ 10 ∷ [])
 
 accepted : (i : ℕ) → i < 2 → loadOf emptyStation (message i) 10 .answer ≡ Loaded
-unfolding loadOf stationOk
+unfolding loadOf stationOk judged
 accepted zero l = refl
 accepted (suc zero) l = refl
 accepted (suc (suc i)) l = absurd (omega arith)
 
 just-loaded : (i : ℕ) → i < 2 → getD slots i emptyStation ≡ loadOf emptyStation (message i) 10 .next
-unfolding loadOf stationOk
+unfolding loadOf stationOk judged
 just-loaded zero l = refl
 just-loaded (suc zero) l = refl
 just-loaded (suc (suc i)) l = absurd (omega arith)
@@ -42,7 +43,7 @@ drawn zero = tt
 drawn (suc k) = (omega arith, drawn k)
 
 pub bound-is-reached : BoundIsReached
-unfolding codeOf lineCodes bitsOf pairsOf frameOf burstOf stationOk sendsOf turnOf lineOf moveAll doneAll stationsOk drawsOk benchOk turnAll benchOf call run
+unfolding codeOf lineCodes bitsOf pairsOf frameOf burstOf stationOk sendsOf turnOf lineOf moveAll doneAll stationsOk drawsOk turnAll benchOf judged call run
 bound-is-reached = record {
   n = 2;
   message = message;

@@ -12,7 +12,6 @@ use native.Mathlib.Decide.{ℕ-discrete}
 use native.Mathlib.Omega.{arith}
 use lib.ListN.{length, getD, take, length-append}
 use lib.Seq.{take-length}
-use Rattle.message.specs.Numbers.{NONE}
 use Rattle.message.specs.Messages.{messageOk, BytesOk}
 use Rattle.message.specs.declared.Message.{Message}
 use Rattle.burst.specs.Frames.{burstOf, burstLength}
@@ -25,19 +24,20 @@ use Rattle.receiver.specs.declared.Event.the-variants.{Message as Gives, Repeat
 use Rattle.station.specs.Stations.{sendsOf, isDone}
 use Rattle.station.specs.declared.Station.{Station}
 use Rattle.station.specs.declared.Turn.{Turn}
-use Rattle.bench.specs.declared.BenchAnswer.the-variants.{Line}
-use Rattle.bench.specs.declared.BenchTurn.{BenchTurn}
+use Rattle.station.specs.declared.bench.BenchAnswer.the-variants.{Line}
+use Rattle.station.specs.declared.bench.BenchTurn.{BenchTurn}
 use Rattle.receiver_laws.proofs.Rests.{Rests, rests-ready}
 use Rattle.receiver_laws.proofs.Standing.{standsAt, eventAt, stands-last, repeat-ends}
-use Rattle.access.specs.Calls.{Moment, linesOf, eventsIn, hears}
-use Rattle.access.specs.Demand3.{SaysDone, SentAndHeard}
-use Rattle.access.proofs.BurstLaws.{burst-most, counted, countedBy, counted-append, clear-briefly}
-use Rattle.access.proofs.BenchLaws.{turnAt, Turns}
-use Rattle.access.proofs.Turns.{done-of, drawn}
-use Rattle.access.proofs.StationStates.{Front, Follows, front-more, front-less, whole, Sending, Stands, sending-half, who-sends, vacant, Outcome, outcome, ends-here, sends-still, Settles, keeps-sending, is-over, done-whole}
-use Rattle.access.proofs.PartHeard.{end-repeats, gives-this, says-cleanly, part-next, part-events, part-event, sent-and-heard}
-use Rattle.access.proofs.Tally.{total-grows, total-rises}
-use Rattle.access.proofs.Moments.{slot, newest, Bench, Kept, Quiet, Underway, Sender, State, quiet, busy, keeps, going-right, quiet-call}
+use Rattle.bench_run.specs.Calls.{Moment, linesOf, eventsIn, hears}
+use Rattle.bench_laws.specs.Demand3.{SaysDone, SentAndHeard}
+use Rattle.bench_laws.proofs.BurstLaws.{burst-most, counted, countedBy, counted-append, clear-briefly}
+use Rattle.bench_laws.proofs.BenchLaws.{turnAt, Turns}
+use Rattle.bench_laws.proofs.Turns.{done-of, drawn}
+use Rattle.bench_laws.proofs.StationStates.{Front, Follows, front-more, front-less, whole, Sending, Stands, sending-half, who-sends, vacant, Outcome}
+use Rattle.bench_laws.proofs.StationStates.{outcome, ends-here, sends-still, Settles, keeps-sending, is-over, done-whole}
+use Rattle.bench_laws.proofs.PartHeard.{end-repeats, gives-this, says-cleanly, part-next, part-events, part-event, sent-and-heard}
+use Rattle.bench_laws.proofs.Tally.{total-grows, total-rises}
+use Rattle.bench_laws.proofs.Moments.{slot, newest, Bench, Kept, Quiet, Underway, Sender, State, quiet, busy, keeps, going-right, quiet-call}
 
 module _ (n : ℕ) (message : ℕ → Message) (B : Bench n message) (start : List Station) (now : Moment) (draws : List ℕ) where
   -- ---- a burst on the line
@@ -96,7 +96,7 @@ module _ (n : ℕ) (message : ℕ → Message) (B : Bench n message) (start : Li
     gives : (g : Message) → said ≡ Gives g → (i : ℕ) × (i < n) × (message i ≡ g)
     gives g e = (F .who, F .below, gives-this m (length sent) g (sym our-event ∙ e))
 
-    cleanly : eventNumber said ≡ NONE
+    cleanly : eventNumber said ≡ 0
     cleanly = ap eventNumber our-event ∙ says-cleanly m (length sent)
 
     next-receiver : stepOf (now .receiver) h .next ≡ receiverAfter r longer
@@ -227,7 +227,8 @@ module _ (n : ℕ) (message : ℕ → Message) (B : Bench n message) (start : Li
             (q .0, busy z r (sent ++ h ∷ []) (q .1) (q .2))
 
     -- a 1 on the line is sent by some station
-    one-heard : (h : ℕ) → suc h ≤ 1 → Turns n (now .slots) draws (suc h) t → (z : ℕ) (r : Receiver) (sent : List ℕ) → Underway n message z r sent now → Next (suc h)
+    one-heard : (h : ℕ) → suc h ≤ 1 → Turns n (now .slots) draws (suc h) t → (z : ℕ) (r : Receiver) (sent : List ℕ)
+        → Underway n message z r sent now → Next (suc h)
     one-heard h low T z r sent R = go (T .some)
       where
         go : (suc h ≡ 0) ⊎ ((i : ℕ) × (i < n) × (sendsOf (slot now i) ≡ suc h)) → Next (suc h)

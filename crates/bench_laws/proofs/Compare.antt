@@ -19,8 +19,8 @@ use Rattle.message.specs.Messages.{messageOk, BytesOk}
 use Rattle.message.specs.declared.Message.{Message}
 use Rattle.burst.specs.Frames.{frameOf, frameLength, burstOf}
 use Rattle.burst.proofs.FrameLaws.{frame-length, frames-one-to-one, no-frame-begins-another}
-use Rattle.access.specs.Together.{notGreater}
-use Rattle.access.proofs.StationStates.{Front}
+use Rattle.bench_laws.specs.Together.{notGreater}
+use Rattle.bench_laws.proofs.StationStates.{Front}
 
 not-greater-at : (xs ys : List ℕ) (k : ℕ) → notGreater xs ys ≡ true → take k xs ≡ take k ys → k < length xs → k < length ys → getD xs k 0 ≤ getD ys k 0
 not-greater-at [] ys k t e l u = absurd (not-suc-le-zero l)

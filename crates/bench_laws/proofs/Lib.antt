@@ -11,3 +11,4 @@ pub mod Compare
 pub mod Tracks
 pub mod StartTogether
 pub mod BoundReached
+pub mod ExportedRun

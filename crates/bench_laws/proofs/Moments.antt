@@ -12,7 +12,6 @@ use mathlib.Core.List.{List, [], reverseAux}
 use Prim.Native.Nat.{ℕ, suc, _+_, _*_, _≤_, _<_}
 use native.Mathlib.Omega.{arith}
 use lib.ListN.{length, getD, drop}
-use Rattle.message.specs.Numbers.{NONE}
 use Rattle.message.specs.Messages.{messageOk, BytesOk}
 use Rattle.message.specs.declared.Message.{Message}
 use Rattle.receiver.specs.Receivers.{eventNumber, stepOf}
@@ -22,23 +21,23 @@ use Rattle.receiver.specs.declared.Receiver.{Receiver}
 use Rattle.receiver.specs.declared.Event.the-variants.{Nothing, Message as Gives, Repeat}
 use Rattle.station.specs.Stations.{emptyStation, stationOk, sendsOf, isDone}
 use Rattle.station.specs.declared.Station.{Station}
-use Rattle.bench.specs.declared.BenchAnswer.the-variants.{Line}
-use Rattle.bench.specs.declared.BenchTurn.{BenchTurn}
+use Rattle.station.specs.declared.bench.BenchAnswer.the-variants.{Line}
+use Rattle.station.specs.declared.bench.BenchTurn.{BenchTurn}
 use Rattle.receiver_laws.specs.Whole.{Ready}
 use Rattle.receiver_laws.proofs.Rests.{Rests, rests-step, rests-next}
-use Rattle.access.specs.Calls.{Answer, Moment, linesOf, eventsIn, hears}
-use Rattle.access.specs.Demand3.{callsEach, timesDone, Right, AllRight}
-use Rattle.access.proofs.BurstLaws.{countedBy}
-use Rattle.access.proofs.BenchLaws.{turnAt, Turns}
-use Rattle.station.proofs.NumberLaws.{sends-below}
-use Rattle.access.proofs.StationStates.{Sending, Stands, stands-ok, mark, vacant, Settles, counts-on}
-use Rattle.access.proofs.Tally.{total, total-grows}
+use Rattle.bench_run.specs.Calls.{Answered, Moment, linesOf, eventsIn, hears}
+use Rattle.bench_laws.specs.Demand3.{callsEach, timesDone, Right, AllRight}
+use Rattle.bench_laws.proofs.BurstLaws.{countedBy}
+use Rattle.bench_laws.proofs.BenchLaws.{turnAt, Turns}
+use Rattle.station.proofs.SendLaws.{sends-below}
+use Rattle.bench_laws.proofs.StationStates.{Sending, Stands, stands-ok, mark, vacant, Settles, counts-on}
+use Rattle.bench_laws.proofs.Tally.{total, total-grows}
 
 abbrev pub slot : Moment → ℕ → Station
 slot now i = getD (now .slots) i emptyStation
 
 -- the answer of a call that is not refused
-abbrev pub newest : Moment → ℕ → BenchTurn → Answer
+abbrev pub newest : Moment → ℕ → BenchTurn → Answered
 newest now h t = record { line = h; done = t .done; event = stepOf (now .receiver) h .event }
 
 module _ (n : ℕ) (message : ℕ → Message) where
@@ -65,7 +64,7 @@ module _ (n : ℕ) (message : ℕ → Message) where
 
   -- the burst so far is sent; before it z clear half-cycles were counted, and the receiver stood at r
   pub record Underway (z : ℕ) (r : Receiver) (sent : List ℕ) (now : Moment) : Type 0 where
-    pub before : List Answer
+    pub before : List Answered
     pub ready : Ready r
     pub stations : (i : ℕ) → i < n → Stands (message i) sent (countedBy z sent) (slot now i)
     pub receiver : now .receiver ≡ receiverAfter r sent
@@ -117,7 +116,7 @@ module _ (n : ℕ) (message : ℕ → Message) where
 
     -- where no station says DONE
     pub going-right : ((i : ℕ) → i < n → isDone (turnAt h (now .slots) draws i .answer) ≡ false) → (newest now h t .event ≡ Repeat → ⊥)
-        → ((m : Message) → newest now h t .event ≡ Gives m → (i : ℕ) × (i < n) × (message i ≡ m)) → eventNumber (newest now h t .event) ≡ NONE
+        → ((m : Message) → newest now h t .event ≡ Gives m → (i : ℕ) × (i < n) × (message i ≡ m)) → eventNumber (newest now h t .event) ≡ 0
         → Right n message (newest now h t) (now .past)
     going-right none again gives clean = record {
       done = λ i l d. absurd (false≢true (sym (T .says i l ∙ none i l) ∙ d));
@@ -127,7 +126,8 @@ module _ (n : ℕ) (message : ℕ → Message) where
     }
 
   -- none sends: all that wait have counted one more
-  module _ (B : Bench) (start : List Station) (now : Moment) (draws : List ℕ) (t : BenchTurn) (T : Turns n (now .slots) draws 0 t) (c : ℕ) (Q : Quiet c now) where
+  module _ (B : Bench) (start : List Station) (now : Moment) (draws : List ℕ) (t : BenchTurn) (T : Turns n (now .slots) draws 0 t)
+      (c : ℕ) (Q : Quiet c now) where
     settled : (i : ℕ) → i < n
         → Settles (message i) [] (c + 1) (slot now i) (turnAt 0 (now .slots) draws i) × (isDone (turnAt 0 (now .slots) draws i .answer) ≡ false)
     settled i l = counts-on (message i) (B .valid i l) c (getD draws i 0) (T .draw i l) (slot now i) (T .above i l) (Q .stations i l)

@@ -13,7 +13,6 @@ use lib.Dec.{eqb}
 use lib.ListN.{length, getD, take, length-reverse}
 use lib.Seq.{take-at}
 use Rattle.ground.specs.Choice.{pick}
-use Rattle.message.specs.Numbers.{NONE}
 use Rattle.message.specs.Messages.{messageOk, BytesOk}
 use Rattle.message.specs.declared.Message.{Message}
 use Rattle.message.specs.declared.Message.the-variants.{Address, Function as Command, Extended}
@@ -29,10 +28,10 @@ use Rattle.receiver_laws.specs.Whole.{Ready, frameEvents, burstEvents}
 use Rattle.receiver_laws.proofs.Runs.{events-append, after-append}
 use Rattle.receiver_laws.proofs.Whole.{hears-burst}
 use Rattle.receiver_laws.proofs.Standing.{standsAt, eventAt, stands-step}
-use Rattle.access.specs.Calls.{Answer, linesOf, eventsIn}
-use Rattle.access.specs.Demand3.{SentAndHeard}
-use Rattle.access.proofs.BurstLaws.{burst-some}
-use Rattle.access.proofs.StationStates.{Follows}
+use Rattle.bench_run.specs.Calls.{Answered, linesOf, eventsIn}
+use Rattle.bench_laws.specs.Demand3.{SentAndHeard}
+use Rattle.bench_laws.proofs.BurstLaws.{burst-some}
+use Rattle.bench_laws.proofs.StationStates.{Follows}
 
 -- ---- at a place of a burst
 
@@ -50,11 +49,11 @@ module _ (m : Message) (k : ℕ) where
       go false true q = cc
       go false false q = cc
 
-  pub says-cleanly : eventNumber (eventAt m k) ≡ NONE
+  pub says-cleanly : eventNumber (eventAt m k) ≡ 0
   unfolding eventAt
   says-cleanly = go (eqb (suc k) (frameLength m)) (eqb (suc k) (burstLength m))
     where
-      go : (s t : Bool) → eventNumber (pick s (Gives m) (pick t Repeat Nothing)) ≡ NONE
+      go : (s t : Bool) → eventNumber (pick s (Gives m) (pick t Repeat Nothing)) ≡ 0
       go true t = refl
       go false true = refl
       go false false = refl
@@ -79,7 +78,7 @@ module _ (m : Message) (valid : messageOk m ≡ true) (bytes : BytesOk m) (r : R
 
 -- ---- the whole burst, newest first
 
-module _ (past before : List Answer) where
+module _ (past before : List Answered) where
   lines-back : (m : Message) → linesOf past ≡ reverseAux (burstOf m) (linesOf before) → take (burstLength m) (linesOf past) ≡ reverse (burstOf m)
   lines-back m lines =
       ap (take (burstLength m)) (lines ∙ reverseAux-eq (burstOf m) (linesOf before))
@@ -88,9 +87,9 @@ module _ (past before : List Answer) where
   looked-back : (m : Message) → linesOf past ≡ reverseAux (burstOf m) (linesOf before) → eventsIn past ≡ reverseAux (burstEvents m) (eventsIn before)
       → SentAndHeard m past
   unfolding burstEvents frameEvents
-  looked-back (Address h u) lines events = record { sent = lines-back (Address h u) lines; given = rw events refl; repeated = rw events refl }
-  looked-back (Command h f) lines events = record { sent = lines-back (Command h f) lines; given = rw events refl; repeated = rw events refl }
-  looked-back (Extended h u d c) lines events = record { sent = lines-back (Extended h u d c) lines; given = rw events refl; repeated = rw events refl }
+  looked-back (Address h u) lines events = record { sent = lines-back (Address h u) lines; gave = rw events refl; repeated = rw events refl }
+  looked-back (Command h f) lines events = record { sent = lines-back (Command h f) lines; gave = rw events refl; repeated = rw events refl }
+  looked-back (Extended h u d c) lines events = record { sent = lines-back (Extended h u d c) lines; gave = rw events refl; repeated = rw events refl }
 
   pub sent-and-heard : (m : Message) → messageOk m ≡ true → BytesOk m → (r : Receiver) → Ready r
       → linesOf past ≡ reverseAux (burstOf m) (linesOf before) → eventsIn past ≡ reverseAux (eventsOf r (burstOf m)) (eventsIn before) → SentAndHeard m past

@@ -27,8 +27,9 @@ use Rattle.station.specs.declared.Station.{Station}
 use Rattle.station.specs.declared.Turn.{Turn}
 use Rattle.station.specs.declared.TurnAnswer.the-variants.{Done}
 use Rattle.station.specs.Stations.{emptyStation, drawOk, stationOk, isEmpty, sendsOf, turnOf, isDone}
-use Rattle.access.proofs.BurstLaws.{burst-some, burst-first, counted}
-use Rattle.access.proofs.Turns.{holding, goes, next-of, done-of, drawn, empty-turn, waiting-ok, sending-ok, waiting-sends, sending-sends, waiting-turn, ends-turn, sends-turn, yields-turn}
+use Rattle.bench_laws.proofs.BurstLaws.{burst-some, burst-first, counted}
+use Rattle.bench_laws.proofs.Turns.{holding, goes, next-of, done-of, drawn, empty-turn, waiting-ok, sending-ok, waiting-sends, sending-sends}
+use Rattle.bench_laws.proofs.Turns.{waiting-turn, ends-turn, sends-turn, yields-turn}
 
 -- the burst of m begins with what was sent
 abbrev pub Front : Message → List ℕ → Type 0

@@ -11,9 +11,9 @@ use native.Mathlib.Nat.{not-suc-le-zero}
 use native.Mathlib.Decide.{ℕ-discrete}
 use native.Mathlib.Omega.{arith}
 use lib.ListN.{getD}
-use Rattle.access.specs.Calls.{Answer}
-use Rattle.access.specs.Demand3.{SaysDone, timesDone}
-use Rattle.access.proofs.StationStates.{mark}
+use Rattle.bench_run.specs.Calls.{Answered}
+use Rattle.bench_laws.specs.Demand3.{SaysDone, timesDone}
+use Rattle.bench_laws.proofs.StationStates.{mark}
 
 -- the sum of f below n
 abbrev sum : (ℕ → ℕ) → ℕ → ℕ
@@ -38,10 +38,10 @@ sum-ones : (n : ℕ) → sum (λ i. 1) n ≡ n
 sum-ones zero = refl
 sum-ones (suc n) = omega (arith, sum-ones n)
 
-unfoldable pub total : ℕ → List Answer → ℕ
+unfoldable pub total : ℕ → List Answered → ℕ
 total n past = sum (λ i. timesDone i past) n
 
-module _ (n : ℕ) (a : Answer) (past : List Answer) where
+module _ (n : ℕ) (a : Answered) (past : List Answered) where
   pub total-grows : total n past ≤ total n (a ∷ past)
   unfolding total
   total-grows = sum-le (λ i. timesDone i past) (λ i. timesDone i (a ∷ past)) n (λ i l. omega arith)
@@ -52,6 +52,6 @@ module _ (n : ℕ) (a : Answer) (past : List Answer) where
       let one : mark (getD (a .done) j false) ≡ 1 = ap mark d in
       sum-lt (λ i. timesDone i past) (λ i. timesDone i (a ∷ past)) n (λ i l. omega arith) j l (omega arith)
 
-pub total-short : (n : ℕ) (past : List Answer) → ((i : ℕ) → i < n → timesDone i past ≤ 1) → (j : ℕ) → j < n → timesDone j past ≡ 0 → total n past < n
+pub total-short : (n : ℕ) (past : List Answered) → ((i : ℕ) → i < n → timesDone i past ≤ 1) → (j : ℕ) → j < n → timesDone j past ≡ 0 → total n past < n
 unfolding total
 total-short n past h j l e = omega (arith, sum-ones n, sum-lt (λ i. timesDone i past) (λ i. 1) n h j l (omega arith))

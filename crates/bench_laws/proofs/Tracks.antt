@@ -24,8 +24,9 @@ use Rattle.station.specs.Stations.{emptyStation, drawOk, stationOk, isEmpty, se
 use Rattle.station.specs.declared.Held.the-variants.{Holds}
 use Rattle.station.specs.declared.Station.{Station}
 use Rattle.station.specs.declared.Turn.{Turn}
-use Rattle.access.proofs.Turns.{holding, next-of, empty-turn, sending-sends, waiting-turn, ends-turn, sends-turn, yields-turn, Moves, ends, holds, moves}
-use Rattle.access.proofs.StationStates.{Sending, Stands, gone, waiting, sends}
+use Rattle.bench_laws.proofs.Turns.{holding, next-of, empty-turn, sending-sends, waiting-turn, ends-turn, sends-turn, yields-turn, Moves, ends, holds}
+use Rattle.bench_laws.proofs.Turns.{moves}
+use Rattle.bench_laws.proofs.StationStates.{Sending, Stands, gone, waiting, sends}
 
 -- ---- the line and a burst
 

@@ -19,14 +19,17 @@ use Rattle.ground.specs.Choice.{pick}
 use Rattle.message.specs.Messages.{messageOk}
 use Rattle.message.specs.declared.Message.{Message}
 use Rattle.burst.specs.Frames.{burstOf, burstLength}
+use Rattle.ground.specs.Refusals.{judged}
+use Rattle.station.proofs.SendLaws.{no-fault}
 use Rattle.station.specs.declared.Held.{Held}
 use Rattle.station.specs.declared.Held.the-variants.{Holds}
 use Rattle.station.specs.declared.Station.{Station}
+use Rattle.station.specs.declared.LoadAnswer.{LoadAnswer}
 use Rattle.station.specs.declared.LoadAnswer.the-variants as load
 use Rattle.station.specs.declared.TurnAnswer.the-variants.{Going, Done}
 use Rattle.station.specs.declared.Turn.{Turn}
-use Rattle.station.specs.Stations.{emptyStation, loadNumber, drawOk, stationOk, loaded, loadOf, sendsOf, waits, sendsOn, sending, heldMoves, turnOf, isDone}
-use Rattle.access.proofs.BurstLaws.{burst-some}
+use Rattle.station.specs.Stations.{emptyStation, loadReport, drawOk, stationOk, loaded, loadOf, sendsOf, waits, sendsOn, sending, heldMoves, turnOf, isDone}
+use Rattle.bench_laws.proofs.BurstLaws.{burst-some}
 
 abbrev pub holding : Message → ℕ → ℕ → ℕ → Station
 holding m w c p = record { held = Holds m; wait = w; count = c; place = p }
@@ -54,19 +57,19 @@ pub record Accepted (m : Message) (d : ℕ) : Type 0 where
   pub fresh : loadOf emptyStation m d .next ≡ loaded m d
 
 pub accepted : (m : Message) (d : ℕ) → loadOf emptyStation m d .answer ≡ load.Loaded → Accepted m d
-unfolding loadOf stationOk
+unfolding loadOf stationOk judged
 accepted m d e = go (messageOk m) (drawOk d) refl refl
   where
     go : (s t : Bool) → messageOk m ≡ s → drawOk d ≡ t → Accepted m d
     go true true p q = record { valid = p; wait = q; fresh = simp (p, q) }
-    go true false p q = absurd (omega (arith, simp (p, q) at (ap loadNumber e)))
-    go false t p q = absurd (omega (arith, simp p at (ap loadNumber e)))
+    go true false p q = absurd (omega (arith, simp (p, q) at (ap (λ (a : LoadAnswer). loadReport a .number) e)))
+    go false t p q = absurd (omega (arith, simp p at (ap (λ (a : LoadAnswer). loadReport a .number) e)))
 
 -- ---- one half-cycle
 
 pub empty-turn : (h d : ℕ) → h ≤ 1 → drawOk d ≡ true → turnOf emptyStation h d ≡ goes emptyStation
-unfolding turnOf stationOk sendsOf
-empty-turn h d low draw = simp (le-leb h 1 low, draw, le-leb 0 h (omega arith))
+unfolding turnOf stationOk sendsOf judged
+empty-turn h d low draw = simp (le-leb h 1 low, draw)
 
 module _ (m : Message) (w : ℕ) (valid : messageOk m ≡ true) (wait : drawOk w ≡ true) where
   pub waiting-ok : (c : ℕ) → c ≤ w → stationOk (holding m w c 0) ≡ true
@@ -87,9 +90,9 @@ module _ (m : Message) (w : ℕ) (valid : messageOk m ≡ true) (wait : drawOk w
 
   module _ (h d : ℕ) (low : h ≤ 1) (draw : drawOk d ≡ true) where
     pub waiting-turn : (c : ℕ) → c < w → turnOf (holding m w c 0) h d ≡ goes (waits m w c h d)
-    unfolding turnOf
+    unfolding turnOf judged
     waiting-turn c l =
-        simp (le-leb h 1 low, waiting-ok c (omega arith), draw, waiting-sends c l, le-leb 0 h (omega arith), ne-eqb c w (λ e. omega arith))
+        simp (le-leb h 1 low, waiting-ok c (omega arith), draw, waiting-sends c l, ne-eqb c w (λ e. omega arith))
 
     -- a station that sends the half-cycle at place k
     module _ (k : ℕ) (short : k < burstLength m) where
@@ -97,8 +100,8 @@ module _ (m : Message) (w : ℕ) (valid : messageOk m ≡ true) (wait : drawOk w
       half = getD (burstOf m) k 0
 
       sending-turn : half ≤ h → turnOf (holding m w w k) h d ≡ sending m w w k h d
-      unfolding turnOf
-      sending-turn u = simp (le-leb h 1 low, sending-ok k short, draw, sending-sends k, le-leb half h u, eq-eqb w w refl)
+      unfolding turnOf judged
+      sending-turn u = simp (le-leb h 1 low, sending-ok k short, draw, sending-sends k, no-fault half h u, eq-eqb w w refl)
 
       pub ends-turn : half ≡ h → k + 1 ≡ burstLength m → turnOf (holding m w w k) h d ≡ record { answer = Done; next = emptyStation }
       ends-turn e l = sending-turn (le-of-eq e) ∙ simp (eq-eqb half h e, eq-eqb (k + 1) (burstLength m) l)
@@ -136,7 +139,7 @@ module _ (m : Message) (s : Station) (h d : ℕ) where
   moves-held false = moves-waiting (eqb h 1)
 
   pub moves : s .held ≡ Holds m → stationOk s ≡ true → h ≤ 1 → drawOk d ≡ true → sendsOf s ≤ h → Moves m s (turnOf s h d)
-  unfolding turnOf
+  unfolding turnOf judged
   moves e ok low draw u =
-      simp (le-leb h 1 low, ok, draw, le-leb (sendsOf s) h u)
+      simp (le-leb h 1 low, ok, draw, no-fault (sendsOf s) h u)
       (subst (λ (x : Held). Moves m s (heldMoves x s h d)) (sym e) (moves-held (eqb (s .count) (s .wait))))

@@ -13,19 +13,19 @@ use lib.ListN.{length, getD, take}
 use Rattle.message.specs.declared.Message.{Message}
 use Rattle.station.specs.Stations.{emptyStation, isEmpty, stationOk}
 use Rattle.station.specs.declared.Station.{Station}
-use Rattle.bench.specs.Benches.{drawsOk, benchOf}
-use Rattle.bench.specs.declared.BenchAnswer.the-variants.{Line}
-use Rattle.bench.specs.declared.BenchTurn.{BenchTurn}
+use Rattle.station.specs.Benches.{drawsOk, benchOf}
+use Rattle.station.specs.declared.bench.BenchAnswer.the-variants.{Line}
+use Rattle.station.specs.declared.bench.BenchTurn.{BenchTurn}
 use Rattle.receiver_laws.proofs.Rests.{rests-fresh}
-use Rattle.access.specs.Calls.{Moment, atStart, hears, call, run, Drawn}
-use Rattle.access.specs.Demand3.{callsEach, Start, timesDone, Claim, Demand3}
-use Rattle.access.proofs.BurstLaws.{burst-most}
-use Rattle.access.proofs.Turns.{drawn, Accepted, accepted}
-use Rattle.access.proofs.StationStates.{Stands, gone, waiting, sends, mark, vacant}
-use Rattle.access.proofs.BenchLaws.{Turns, bench-number, bench-refuses, bench-turns}
-use Rattle.access.proofs.Tally.{total, total-short}
-use Rattle.access.proofs.Moments.{slot, Bench, Kept, State, quiet, busy, alike, all-ok, line-half}
-use Rattle.access.proofs.BurstCalls.{next-state}
+use Rattle.bench_run.specs.Calls.{Moment, atStart, hears, call, run, Drawn}
+use Rattle.bench_laws.specs.Demand3.{callsEach, Start, timesDone, Claim, Demand3}
+use Rattle.bench_laws.proofs.BurstLaws.{burst-most}
+use Rattle.bench_laws.proofs.Turns.{drawn, Accepted, accepted}
+use Rattle.bench_laws.proofs.StationStates.{Stands, gone, waiting, sends, mark, vacant}
+use Rattle.bench_laws.proofs.BenchLaws.{Turns, bench-number, bench-refuses, bench-turns}
+use Rattle.bench_laws.proofs.Tally.{total, total-short}
+use Rattle.bench_laws.proofs.Moments.{slot, Bench, Kept, State, quiet, busy, alike, all-ok, line-half}
+use Rattle.bench_laws.proofs.BurstCalls.{next-state}
 
 -- a call is refused and changes nothing, or turns every station
 pub data Called (n : ℕ) (now : Moment) (draws : List ℕ) : Type 0 where

@@ -6,8 +6,8 @@ use mathlib.Core.List.{List}
 use lib.ListN.{length}
 use Rattle.message.specs.declared.Message.{Message}
 use Rattle.station.specs.declared.Station.{Station}
-use Rattle.access.specs.Calls.{atStart, run, Drawn}
-use Rattle.access.specs.Demand3.{callsEach, Start, timesDone}
+use Rattle.bench_run.specs.Calls.{atStart, run, Drawn}
+use Rattle.bench_laws.specs.Demand3.{callsEach, Start, timesDone}
 
 pub record BoundIsReached : Type 0 where
   pub n : ℕ

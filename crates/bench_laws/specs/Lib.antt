@@ -1,4 +1,4 @@
-pub mod Calls
 pub mod Demand3
 pub mod Bound
 pub mod Together
+pub mod ExportedRun

@@ -12,8 +12,8 @@ use Rattle.burst.specs.Frames.{frameOf, burstOf, burstLength}
 use Rattle.station.specs.Stations.{emptyStation}
 use Rattle.station.specs.declared.Held.the-variants.{Holds}
 use Rattle.station.specs.declared.Station.{Station}
-use Rattle.access.specs.Calls.{Moment, linesOf, atStart, run, Drawn}
-use Rattle.access.specs.Demand3.{Start, timesDone}
+use Rattle.bench_run.specs.Calls.{Moment, linesOf, atStart, run, Drawn}
+use Rattle.bench_laws.specs.Demand3.{Start, timesDone}
 
 -- a station with the message m that has counted its wait and sent nothing: "it sends from the next half-cycle"
 pub record Starts (m : Message) (s : Station) : Type 0 where

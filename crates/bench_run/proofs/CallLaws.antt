@@ -2,11 +2,12 @@
 --
 --     mask-below, mask-cons               the number of which stations are DONE
 --     bench-takes                         a call goes by its first n draws
+--     refused-call-leaves                 RefusedCallLeaves
 --     Going, going-first, going-next      where a run of calls stands: lines and marks so far, the stations, the count
 --     draws-left, going-last              the next call's draws are there; what all calls leave
 use mathlib.Core.Path.{_≡_, refl, sym, ap, ap₂, subst, _∙_}
 use mathlib.Core.Bool.{Bool, true, false}
-use mathlib.Core.List.{List, [], _∷_, _++_, map, map-append, flatMap, append-assoc, append-nil}
+use mathlib.Core.List.{List, [], _∷_, _++_, map-append, flatMap, append-nil}
 use Prim.Native.Nat.{ℕ, zero, suc, _+_, _-_, _*_, _/_, _%_, _^_, _≤_, _<_}
 use native.Mathlib.Nat.{pow-suc, le-refl, le-trans, add-zero, mul-suc, mul-zero, mul-le-mul-left}
 use native.Mathlib.Numerals.{add-one}
@@ -15,12 +16,15 @@ use lib.Pow.{pow-mono}
 use lib.ListN.{length, getD, set, take, drop, length-append, length-drop, length-set, length-map, drop-of-length-le}
 use lib.Seq.{drop-cons, set-at, append-snoc, take-take}
 use Rattle.ground.specs.Choice.{pick}
-use Rattle.station.specs.Benches.{turnAll, benchOf}
+use Rattle.ground.specs.Refusals.{Cause, when, unless, judged}
+use Rattle.ground.specs.declared.Refusal.{Refusal}
+use Rattle.ground.proofs.Choices.{pick-both}
+use Rattle.station.specs.Benches.{turnAll, benchRefused, benchCauses, benchOf}
 use Rattle.station.specs.declared.Station.{Station}
 use Rattle.station.specs.declared.bench.BenchAnswer.{BenchAnswer}
 use Rattle.station.specs.declared.bench.BenchAnswer.the-variants.{Line, Refused}
 use Rattle.station.specs.declared.bench.BenchTurn.{BenchTurn}
-use Rattle.bench_run.specs.Calls.{Moment, hears, call, run}
+use Rattle.bench_run.specs.Calls.{Moment, hears, call, run, RefusedCallLeaves}
 use Rattle.bench_run.specs.BenchRuns.{drawsOf, callsOf, momentAfter, turnsOf, lineByte, lineBytes, counts, maskOf, markBytes}
 
 -- ---- the mask
@@ -71,6 +75,30 @@ module _ (n : ℕ) (now : Moment) (draws : List ℕ) where
       go : (o : BenchTurn) (a : BenchAnswer) → length (hears now o a .past) ≡ length (now .past) + counts a
       go o (Line h) = sym (add-one (length (now .past)))
       go o (Refused why) = sym (add-zero (length (now .past)))
+
+-- ---- a call that is refused
+
+-- what holds of what is done and of every refusal holds of what is judged
+either-way : {A : Type 0} (P : A → Type 0) (done : A) (refused : Refusal → A) → P done → ((why : Refusal) → P (refused why)) → (cs : List Cause)
+    → P (judged cs done refused)
+unfolding judged
+either-way P done refused p q [] = p
+either-way P done refused p q (when bad why ∷ cs) = pick-both P bad _ _ (q why) (either-way P done refused p q cs)
+either-way P done refused p q (unless fine why ∷ cs) = pick-both P fine _ _ (either-way P done refused p q cs) (q why)
+
+refused-slots : (n : ℕ) (slots : List Station) (draws : List ℕ) (why : Refusal) → benchOf n slots draws .answer ≡ Refused why
+    → benchOf n slots draws .slots ≡ slots
+unfolding benchOf turnAll
+refused-slots n slots draws =
+    either-way (λ (o : BenchTurn). (why : Refusal) → o .answer ≡ Refused why → o .slots ≡ slots) (turnAll n slots draws) (benchRefused slots)
+    (λ why e. cc) (λ w why e. refl) (benchCauses n slots draws)
+
+pub refused-call-leaves : RefusedCallLeaves
+unfolding call
+refused-call-leaves n now draws why e =
+    let o = benchOf n (now .slots) draws in
+    let kept : List Station → Moment = λ s. record { slots = s; receiver = now .receiver; past = now .past } in
+    ap (λ (a : BenchAnswer). hears now o a) e ∙ ap kept (refused-slots n (now .slots) draws why e)
 
 -- ---- lists that grow at their end
 

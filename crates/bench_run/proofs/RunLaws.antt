@@ -3,7 +3,7 @@
 --     draws-match, draws-differ     a draw for each station and call, by a quotient and a remainder
 --     run-refused, run-done         what the run owes where it is refused, and where it is not
 --     run-lowest                    RunLowest
-use mathlib.Core.Path.{_≡_, refl, sym, ap, subst, _∙_}
+use mathlib.Core.Path.{_≡_, refl, sym, ap, _∙_}
 use mathlib.Core.Bool.{Bool, true, false}
 use mathlib.Core.List.{List, [], _∷_, _++_, flatMap}
 use Prim.Native.Nat.{ℕ, _*_, _/_, _%_, _<_}
@@ -11,13 +11,14 @@ use native.Mathlib.Nat.{div-add-mod, mul-div-cancel-left, mul-mod-right}
 use native.Mathlib.Omega.{arith}
 use lib.ListN.{length, drop}
 use Rattle.ground.specs.Choice.{pick}
-use Rattle.ground.specs.Refusals.{Cause, when, unless, judged, numberGiven, reports, refuses, countReport}
+use Rattle.ground.specs.Refusals.{Cause, when, unless, judged, numberGiven, countReport}
 use Rattle.ground.specs.declared.CountAnswer.{CountAnswer}
 use Rattle.ground.specs.declared.CountAnswer.the-variants.{Done, Refused}
 use Rattle.ground.specs.declared.Refusal.{Refusal}
 use Rattle.ground.proofs.Causes.{judged-map, nothing-refused, lowest-given}
 use Rattle.station.specs.declared.Station.{Station}
-use Rattle.bench_run.specs.BenchRuns.{slotsFrom, momentAfter, turnsOf, lineBytes, markBytes, Lent, runCauses, slotsIn, momentIn, turnsIn, runAnswer, runReport, linesAfter, marksAfter, RunLowest}
+use Rattle.bench_run.specs.BenchRuns.{momentAfter, turnsOf, lineBytes, markBytes, Lent, runCauses, slotsIn, momentIn, turnsIn, runAnswer}
+use Rattle.bench_run.specs.BenchRuns.{runReport, linesAfter, marksAfter, RunLowest}
 
 pub draws-match : (n draws calls : ℕ) → draws / n ≡ calls → draws % n ≡ 0 → draws ≡ n * calls
 draws-match n draws calls q r = sym (div-add-mod draws n) ∙ rw (q, r) (omega arith)
@@ -77,7 +78,9 @@ module _ (l : Lent) where
           reported answer,
           (
             did .1 .0 ∙ ap (λ (s : List Station). lineBytes (turnsOf n s (l .draws) k)) from ∙ sym (nothing-refused _ _ (runCauses l) none),
-            did .1 .1 ∙ ap (λ (s : List Station). flatMap markBytes (turnsOf n s (l .draws) k) ++ drop (2 * k) (l .marks)) from ∙ sym (nothing-refused _ _ (runCauses l) none),
+            did .1 .1
+                ∙ ap (λ (s : List Station). flatMap markBytes (turnsOf n s (l .draws) k) ++ drop (2 * k) (l .marks)) from
+                ∙ sym (nothing-refused _ _ (runCauses l) none),
           ),
         ),
       )

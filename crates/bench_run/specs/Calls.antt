@@ -1,9 +1,11 @@
 -- A list of bench calls with a receiver behind them (01, 'Station and bench'): what each call is given, and what is kept of its answer.
 -- Demand 3 speaks of these calls, and the exported run makes them.
 use Prim.Native.Nat.{ℕ, _≤_}
+use mathlib.Core.Path.{_≡_}
 use mathlib.Core.Bool.{Bool}
 use mathlib.Core.List.{List, [], _∷_, map}
 use lib.ListN.{length}
+use Rattle.ground.specs.declared.Refusal.{Refusal}
 use Rattle.receiver.specs.Receivers.{freshReceiver, stepOf}
 use Rattle.receiver.specs.declared.Receiver.{Receiver}
 use Rattle.receiver.specs.declared.Event.{Event}
@@ -53,6 +55,10 @@ call n now draws = hears now (benchOf n (now .slots) draws) (benchOf n (now .slo
 unfoldable pub run : ℕ → Moment → List (List ℕ) → Moment
 run n now [] = now
 run n now (draws ∷ earlier) = call n (run n now earlier) draws
+
+-- a refused call leaves the stations, the receiver and the answers so far: proofs/CallLaws.antt
+abbrev pub RefusedCallLeaves : Type 0
+RefusedCallLeaves = (n : ℕ) (now : Moment) (draws : List ℕ) (why : Refusal) → benchOf n (now .slots) draws .answer ≡ Refused why → call n now draws ≡ now
 
 -- the draws are whatever numbers, but there is "a draw for each" of the n stations
 abbrev pub Drawn : ℕ → List (List ℕ) → Type 0

@@ -20,7 +20,8 @@ ghost use Rattle.ground.specs.Choice.{pick};
 ghost use Rattle.ground.specs.Refusals.{countReport};
 ghost use Rattle.station.specs.Benches.{drawsOk};
 ghost use Rattle.wire.specs.Messages.{messageIn};
-ghost use Rattle.bench_run.specs.BenchRuns.{saysMessage, allSay, loadedBy, slotsFrom, momentAfter, turnsOf, lineByte, lineBytes, markBytes, counts, maskOf};
+ghost use Rattle.bench_run.specs.BenchRuns.{saysMessage, allSay, loadedBy, slotsFrom, momentAfter, turnsOf, lineByte, lineBytes, markBytes, counts};
+ghost use Rattle.bench_run.specs.BenchRuns.{maskOf};
 ghost use Rattle.bench_run.specs.BenchRuns.{lent, runAnswer, runReport, linesAfter, marksAfter};
 
 // The message that stands at a place.
@@ -171,7 +172,9 @@ fn run_all(
     requires { ⌜ (n ≤ 16) × (length (now draws) ≡ n * length (now lines)) × (2 * length (now lines) ≤ length (now marks)) ⌝ }
     ensures count { λ r. ⌜ r ≡ length (momentAfter n slots (now (draws .entry)) (length (now (lines .entry))) .past) ⌝ }
     ensures lines { λ _. ⌜ now (lines .exit) ≡ lineBytes (turnsOf n slots (now (draws .entry)) (length (now (lines .entry)))) ⌝ }
-    ensures marks { λ _. ⌜ now (marks .exit) ≡ flatMap markBytes (turnsOf n slots (now (draws .entry)) (length (now (lines .entry)))) ++ drop (2 * length (now (lines .entry))) (now (marks .entry)) ⌝ }
+    ensures marks { λ _. ⌜ now (marks .exit)
+        ≡ flatMap markBytes (turnsOf n slots (now (draws .entry)) (length (now (lines .entry))))
+        ++ drop (2 * length (now (lines .entry))) (now (marks .entry)) ⌝ }
 {
     let mut turn = BenchTurn {
         answer: BenchAnswer::Line(0),
@@ -207,9 +210,12 @@ pub fn run(
     marks: &mut [u8],
 ) -> CountAnswer
     ensures answer { λ r. ⌜ r ≡ runAnswer (lent (now (messages .entry)) (now (loads .entry)) (now (draws .entry)) (now (lines .entry)) (now (marks .entry))) ⌝ }
-    ensures report { λ r. ⌜ countReport r ≡ runReport (lent (now (messages .entry)) (now (loads .entry)) (now (draws .entry)) (now (lines .entry)) (now (marks .entry))) ⌝ }
-    ensures lines { λ _. ⌜ now (lines .exit) ≡ linesAfter (lent (now (messages .entry)) (now (loads .entry)) (now (draws .entry)) (now (lines .entry)) (now (marks .entry))) ⌝ }
-    ensures marks { λ _. ⌜ now (marks .exit) ≡ marksAfter (lent (now (messages .entry)) (now (loads .entry)) (now (draws .entry)) (now (lines .entry)) (now (marks .entry))) ⌝ }
+    ensures report { λ r. ⌜ countReport r
+        ≡ runReport (lent (now (messages .entry)) (now (loads .entry)) (now (draws .entry)) (now (lines .entry)) (now (marks .entry))) ⌝ }
+    ensures lines { λ _. ⌜ now (lines .exit)
+        ≡ linesAfter (lent (now (messages .entry)) (now (loads .entry)) (now (draws .entry)) (now (lines .entry)) (now (marks .entry))) ⌝ }
+    ensures marks { λ _. ⌜ now (marks .exit)
+        ≡ marksAfter (lent (now (messages .entry)) (now (loads .entry)) (now (draws .entry)) (now (lines .entry)) (now (marks .entry))) ⌝ }
 {
     if !messages_fine(messages) {
         return CountAnswer::Refused(Refusal::Message);

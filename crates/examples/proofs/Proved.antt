@@ -6,7 +6,8 @@ use Rattle.message.specs.Codes.{codeOf, lineCodes, placeIn}
 use Rattle.burst.specs.Frames.{bitsOf, pairsOf, frameOf}
 use Rattle.radio.specs.Codes.{nibbleOf, houseNibbles, sixteen, commandsOf, commands, codes, codePlace}
 use Rattle.radio.specs.Answers.{writeAnswer, readAnswer}
-use Rattle.record.specs.ModuleTable.{extendedPlan, stepRecord}
+use Rattle.plan.specs.Plans.{extendedPlan, planAnswer}
+use Rattle.record.specs.ModuleTable.{stepRecord}
 use Rattle.examples.specs.LineExamples.{LineExamples}
 
 -- P7's bytes stand nowhere among the 544 codes
@@ -15,5 +16,5 @@ unfolding nibbleOf houseNibbles sixteen commandsOf commands codes codePlace plac
 none-of-them = refl
 
 pub line-examples : LineExamples
-unfolding judged codeOf lineCodes bitsOf pairsOf frameOf nibbleOf houseNibbles writeAnswer readAnswer extendedPlan stepRecord
+unfolding judged codeOf lineCodes bitsOf pairsOf frameOf nibbleOf houseNibbles writeAnswer readAnswer extendedPlan planAnswer stepRecord
 line-examples = (refl, (refl, (refl, (refl, (refl, (refl, (rw none-of-them, (refl, (refl, (refl, (refl, (refl, tt))))))))))))

@@ -10,9 +10,10 @@ use Rattle.burst.specs.Frames.{frameOf}
 use Rattle.radio.specs.Answers.{writeAnswer, writeReport, readAnswer, readReport}
 use Rattle.radio.specs.declared.RadioCommand.{RadioCommand}
 use Rattle.radio.specs.declared.RadioCommand.the-variants.{On as RadioOn, Off as RadioOff}
-use Rattle.record.specs.ModuleTable.{planOf, stepRecord}
-use Rattle.record.specs.declared.Plan.{Plan}
-use Rattle.record.specs.declared.Plan.the-variants.{Run, NotCarried}
+use Rattle.plan.specs.Plans.{planAnswer}
+use Rattle.plan.specs.declared.Plan.{Plan}
+use Rattle.plan.specs.declared.Plan.the-variants.{Run, Refused}
+use Rattle.record.specs.ModuleTable.{stepRecord}
 use Rattle.record.specs.declared.Record.{Record}
 
 -- an addressed module of this kind (1 lamp, 2 appliance) at this level, in no group
@@ -26,10 +27,10 @@ LAMP = 1
 abbrev pub APPLIANCE : ℕ
 APPLIANCE = 2
 
--- the level of unit 1's module once a plan is carried out
+-- the level of unit 1's module once a plan is carried out, in a house that has heard no command since the address
 abbrev pub levelAfter : Plan → Record → ℕ
-levelAfter (Run a) r = stepRecord a 0 r .level
-levelAfter NotCarried r = r .level
+levelAfter (Run a) r = stepRecord a (record { heard = 0 }) 0 r .level
+levelAfter (Refused why) r = r .level
 
 -- an example: a message and its frame; a radio command and its four bytes; four bytes and the number that refuses them; a message of
 -- house A, a module of A1 and the level that the message leaves
@@ -44,7 +45,7 @@ abbrev pub Says : Example → Type 0
 Says (frame m halves) = frameOf m ≡ halves
 Says (radio k bytes) = writeReport (writeAnswer k) ≡ reports bytes
 Says (refused bytes n) = readReport (readAnswer bytes) ≡ record { number = n; values = [] }
-Says (level m r x) = levelAfter (planOf 0 m) r ≡ x
+Says (level m r x) = levelAfter (planAnswer m) r ≡ x
 
 abbrev pub AllSay : List Example → Type 0
 AllSay [] = Unit {0}

@@ -2,21 +2,20 @@
 --
 --     write-given                                            a valid command's four bytes are given
 --     read-given, Read, read-cases                           the codes of the valid commands are read, and no others
---     code-given, code-refused                               the same of b and c
 --     write-reported, read-reported, messages-reported       the reports that the contracts promise
-use mathlib.Core.Path.{_≡_, refl, sym, ap, ap₂, _∙_}
+use mathlib.Core.Path.{_≡_, refl, ap, _∙_}
 use mathlib.Core.Bool.{Bool, true, false}
 use mathlib.Core.List.{List, [], _∷_}
 use Prim.Native.Nat.{ℕ, _-_}
-use borrow.Author.Tests.{eq-eqb, ltb-true, lt-ltb}
-use lib.Dec.{eqb, ltb}
+use borrow.Author.Tests.{eq-eqb}
+use lib.Dec.{eqb}
 use lib.ListN.{length}
 use Rattle.ground.specs.Refusals.{Report, reports, refuses, judged}
 use Rattle.ground.specs.declared.Refusal.{Refusal}
 use Rattle.ground.specs.declared.Refusal.the-variants as refusal
 use Rattle.ground.proofs.Causes.{judged-map}
 use Rattle.message.specs.declared.Message.{Message}
-use Rattle.radio.specs.Codes.{byteB, byteC, codeFrom, fourBytes, commandOk, codePlace, commandOf}
+use Rattle.radio.specs.Codes.{byteB, byteC, codeFrom, fourBytes, commandOk, among, commandOf}
 use Rattle.radio.specs.Answers.{writeCauses, writeAnswer, writeReport, complementary, readCauses, readAnswer, readReport}
 use Rattle.radio.specs.Answers.{messagesMeant, messagesOf, messagesCauses, messagesAnswer, messagesReport}
 use Rattle.radio.specs.declared.RadioCommand.{RadioCommand}
@@ -41,14 +40,14 @@ pub data Read (code : List ℕ) : Type 0 where
 
 pub read-cases : (code : List ℕ) → Read code
 unfolding readAnswer judged
-read-cases code = go (eqb (length code) 4) (complementary code) (ltb (codePlace code) 544) refl refl refl
+read-cases code = go (eqb (length code) 4) (complementary code) (among code) refl refl refl
   where
-    go : (four paired among : Bool) → eqb (length code) 4 ≡ four → complementary code ≡ paired → ltb (codePlace code) 544 ≡ among → Read code
-    go false paired among f p a = refused refusal.RfLength (simp f)
-    go true false among f p a = refused refusal.Complement (simp (f, p))
+    go : (four paired one : Bool) → eqb (length code) 4 ≡ four → complementary code ≡ paired → among code ≡ one → Read code
+    go false paired one f p a = refused refusal.RfLength (simp f)
+    go true false one f p a = refused refusal.Complement (simp (f, p))
     go true true false f p a = refused refusal.Code (simp (f, p, a))
     go true true true f p a =
-        let it = code-of-named code (ltb-true (codePlace code) 544 a) in
+        let it = code-of-named code a in
         named (commandOf code) (it .0) (it .1) (simp (f, p, a))
 
 -- the pairs of a code that is made of b and c are complementary
@@ -59,23 +58,7 @@ pub read-given : (k : RadioCommand) → commandOk k ≡ true → readAnswer (fou
 unfolding readAnswer judged
 read-given k ok =
     let it = named-of-code k ok in
-    simp (pairs (byteB k) (byteC k), lt-ltb (codePlace (fourBytes k)) 544 (it .0)) (ap read.Command (it .1))
-
-module _ (b c : ℕ) where
-  pub code-given : (k : RadioCommand) → commandOk k ≡ true → byteB k ≡ b → byteC k ≡ c → readAnswer (codeFrom b c) ≡ read.Command k
-  code-given k ok eb ec = sym (ap₂ (λ (x y : ℕ). readAnswer (codeFrom x y)) eb ec) ∙ read-given k ok
-
-  pub code-refused : ((k : RadioCommand) → commandOk k ≡ true → byteB k ≡ b → byteC k ≡ c → ⊥) → readAnswer (codeFrom b c) ≡ read.Refused refusal.Code
-  unfolding readAnswer judged
-  code-refused never = go (ltb (codePlace (codeFrom b c)) 544) refl
-    where
-      go : (among : Bool) → ltb (codePlace (codeFrom b c)) 544 ≡ among → readAnswer (codeFrom b c) ≡ read.Refused refusal.Code
-      go false a = simp (pairs b c, a)
-      go true a =
-          let k = commandOf (codeFrom b c) in
-          let it = code-of-named (codeFrom b c) (ltb-true (codePlace (codeFrom b c)) 544 a) in
-          let same : fourBytes k ≡ codeFrom b c = it .1 in
-          absurd (never k (it .0) (cc) (cc))
+    simp (pairs (byteB k) (byteC k), it .0) (ap read.Command (it .1))
 
 -- ---- what the answers report
 

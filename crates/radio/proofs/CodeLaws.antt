@@ -3,7 +3,7 @@
 --     nibbles-one-to-one                      no four bits stand twice in the houses' table
 --     nibble-read-back, house-read-back       four bits read back, both ways
 --     nibble-below, house-of-nibble-below     four bits and houses are below 16
---     Bits, bits, digits, bit                 a number below 16 by its bits
+--     Bits, bits, digits, bit-below           a number below 16 by its bits
 --     bytes-one-to-one, no-shared-code        no two valid commands have the same b and c, or the same code
 use mathlib.Core.Path.{_≡_, refl, sym, ap, ap₂, _∙_}
 use mathlib.Core.Bool.{true}
@@ -48,8 +48,8 @@ house-of-nibble-below n l = ltb-true (houseOfNibble n) 16 (every-at (λ k x. ltb
 
 -- ---- bits
 
-pub bit : (n : ℕ) → n % 2 < 2
-bit n = omega arith
+pub bit-below : (n : ℕ) → n % 2 < 2
+bit-below n = omega arith
 
 -- n has the bits w, x, y, z
 pub record Bits (n w x y z : ℕ) : Type 0 where
@@ -95,7 +95,7 @@ from-switch : (h u c f : ℕ) → h < 16 → u < 16 → f < 2 → c ≡ unitInC 
     → commandFrom (houseInB h + unitInB u) c ≡ pick (eqb f 0) (On h u) (Off h u)
 unfolding commandFrom unitFrom
 from-switch h u c f hh hu hf is =
-    let s = switch-bits c (u / 4 % 2) (u / 2 % 2) (u % 2) f (bit (u / 4)) (bit (u / 2)) (bit u) hf is in
+    let s = switch-bits c (u / 4 % 2) (u / 2 % 2) (u % 2) f (bit-below (u / 4)) (bit-below (u / 2)) (bit-below u) hf is in
     let low = s .low in
     let high : (houseInB h + unitInB u) / 16 ≡ nibbleOf h = omega arith in
     let eight : (houseInB h + unitInB u) / 4 % 2 ≡ u / 8 % 2 = omega arith in

@@ -10,14 +10,14 @@ use mathlib.Core.List.{List, [], _∷_, flatMap, List·Memᴰ, List·Memᴰ·hea
 use Prim.Native.Nat.{ℕ, zero, suc, _+_, _*_, _<_}
 use native.Mathlib.Nat.{le-of-suc-le-suc, not-suc-le-zero}
 use native.Mathlib.Omega.{arith}
-use borrow.Author.Tests.{eqb-true, eq-eqb}
+use borrow.Author.Tests.{eqb-true, eq-eqb, ltb-true, lt-ltb}
 use lib.Dec.{eqb}
 use lib.ListN.{length, getD, length-map, List·getD-map}
 use Rattle.ground.specs.Choice.{pick}
 use Rattle.ground.proofs.Choices.{pick-both, both, below-sixteen, both-below}
 use Rattle.message.specs.Codes.{placeIn}
 use Rattle.message.proofs.Tables.{everyFrom, every-at}
-use Rattle.radio.specs.Codes.{fourBytes, commandOk, sixteen, switchesOf, commandsOf, commands, codes, sameCode, codePlace, commandOf}
+use Rattle.radio.specs.Codes.{fourBytes, commandOk, sixteen, switchesOf, commandsOf, commands, codes, sameCode, codePlace, among, commandOf}
 use Rattle.radio.specs.declared.RadioCommand.{RadioCommand}
 use Rattle.radio.specs.declared.RadioCommand.the-variants.{On, Off, Bright, Dim}
 use Rattle.radio.proofs.CodeLaws.{no-shared-code}
@@ -133,19 +133,21 @@ pub codes-count : length codes ≡ 544
 unfolding codes
 codes-count = length-map commands fourBytes ∙ commands-count
 
-pub code-of-named : (code : List ℕ) → codePlace code < 544 → (commandOk (commandOf code) ≡ true) × (fourBytes (commandOf code) ≡ code)
+pub code-of-named : (code : List ℕ) → among code ≡ true → (commandOk (commandOf code) ≡ true) × (fourBytes (commandOf code) ≡ code)
 unfolding codePlace commandOf codes
-code-of-named code l =
+code-of-named code t =
     let p = codePlace code in
-    let in-codes : p < length codes = subst (λ (n : ℕ). p < n) (sym codes-count) l in
-    let in-commands : p < length commands = subst (λ (n : ℕ). p < n) (sym commands-count) l in
+    let within : p < 544 = ltb-true p 544 t in
+    let in-codes : p < length codes = subst (λ (n : ℕ). p < n) (sym codes-count) within in
+    let in-list : p < length commands = subst (λ (n : ℕ). p < n) (sym commands-count) within in
     let at : code ≡ getD codes p (fourBytes (Bright 0)) = same-code code _ (place-found sameCode code codes (fourBytes (Bright 0)) in-codes) in
-    (commands-ok (commandOf code) (getD-mem commands p (Bright 0) in-commands), sym (at ∙ List·getD-map fourBytes commands p (Bright 0)))
+    (commands-ok (commandOf code) (getD-mem commands p (Bright 0) in-list), sym (at ∙ List·getD-map fourBytes commands p (Bright 0)))
 
-pub named-of-code : (k : RadioCommand) → commandOk k ≡ true → (codePlace (fourBytes k) < 544) × (commandOf (fourBytes k) ≡ k)
+pub named-of-code : (k : RadioCommand) → commandOk k ≡ true → (among (fourBytes k) ≡ true) × (commandOf (fourBytes k) ≡ k)
 unfolding codePlace codes
 named-of-code k ok =
     let in-codes = place-within sameCode (fourBytes k) codes (Memᴰ·map fourBytes (in-commands k ok)) (code-same (fourBytes k)) in
     let within : codePlace (fourBytes k) < 544 = subst (λ (n : ℕ). codePlace (fourBytes k) < n) codes-count in-codes in
-    let named = code-of-named (fourBytes k) within in
-    (within, no-shared-code (commandOf (fourBytes k)) k (named .0) ok (named .1))
+    let one : among (fourBytes k) ≡ true = lt-ltb (codePlace (fourBytes k)) 544 within in
+    let named = code-of-named (fourBytes k) one in
+    (one, no-shared-code (commandOf (fourBytes k)) k (named .0) ok (named .1))

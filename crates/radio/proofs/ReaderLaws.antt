@@ -1,48 +1,36 @@
--- Laws for the reader: what the definition gives for b and c, by the tests that the code makes of them.
+-- Laws for the reader: which b and c are those of a code, and of which command, by the tests that the code makes of them.
 --
---     both-hold, one-fails                         what the code's test of two tests says of both
---     both-equal, one-differs                      the same of two pairs of numbers
---     code-again                                   where both complements are right, b and c make the code again
---     low-clear, low-masked, unit-masked           the bits of b that must be 0, and the unit, by the code's masks
---     bright-read, dim-read, on-read, off-read     where the tests hold: the house and unit taken out of b and c make b and c again
---     no-step, no-switch                           where one does not: each command would pass it
+--     both-hold, one-fails                             what the code's test of both complements says of the definition's
+--     code-again                                       where both are right, b and c make the code again
+--     unit-masked                                      the unit by the code's masks
+--     bits-of-switch, bits-of-step                     what the b and c of a code are, where c is below 128 and where it is not
+--     on-named, off-named, bright-named, dim-named     the command of such b and c: its b and c are these
+--     switch-test, step-test                           the test whether b and c are those of a code
 use mathlib.Core.Path.{_≡_, refl, sym, ap, _∙_}
-use mathlib.Core.Bool.{Bool, true, false, not, _&&_, _||_, and-eq-true-iff, true≢false}
+use mathlib.Core.Bool.{Bool, true, false, not, _&&_, _||_, and-eq-true-iff}
 use mathlib.Core.List.{List, [], _∷_}
-use mathlib.Core.Logic.{_⊎_, inl, inr}
+use mathlib.Core.Logic.{_⊎_, inl, inr, ⊎-elim}
 use Prim.Native.Nat.{ℕ, _+_, _-_, _*_, _/_, _%_, _<_}
 use native.Mathlib.Omega.{arith}
-use borrow.Author.Tests.{eqb-true, eq-eqb, not-true, not-false, le-leb}
+use borrow.Author.Tests.{eqb-true, eqb-false, not-true, not-false, le-leb}
 use lib.Bits.{bitAnd, and-step, and-high}
 use lib.Dec.{eqb, leb}
 use lib.ListN.{length, getD}
-use Rattle.ground.specs.declared.Refusal.the-variants as refusal
-use Rattle.radio.specs.Codes.{houseOfNibble, houseInB, unitInB, unitInC, byteB, byteC, codeFrom}
-use Rattle.radio.specs.Answers.{readAnswer}
+use Rattle.radio.specs.Codes.{houseOfNibble, houseInB, unitInB, unitInC, byteB, byteC, codeFrom, commandOk, among, commandOf}
 use Rattle.radio.specs.declared.RadioCommand.{RadioCommand}
 use Rattle.radio.specs.declared.RadioCommand.the-variants.{On, Off, Bright, Dim}
-use Rattle.radio.specs.declared.RadioRead.the-variants as read
-use Rattle.radio.proofs.CodeLaws.{house-read-back, house-of-nibble-below, bit, Bits, bits, digits, unitFrom}
-use Rattle.radio.proofs.AnswerLaws.{code-given, code-refused}
+use Rattle.radio.proofs.CodeLaws.{house-read-back, house-of-nibble-below, bit-below, Bits, bits, digits, unitFrom}
+use Rattle.radio.proofs.CommandLaws.{code-of-named, named-of-code}
 
 -- ---- two tests joined: whether one of two fails
 
-both-hold : (s t : Bool) → (not s || not t) ≡ false → (s && t) ≡ true
+pub both-hold : (s t : Bool) → (not s || not t) ≡ false → (s && t) ≡ true
 both-hold true t e = not-false t e
 both-hold false t e = sym e
 
 pub one-fails : (s t : Bool) → (not s || not t) ≡ true → (s && t) ≡ false
 one-fails true t e = not-true t e
 one-fails false t e = refl
-
-module _ (a b x y : ℕ) where
-  pub both-equal : (not (eqb a b) || not (eqb x y)) ≡ false → (a ≡ b) × (x ≡ y)
-  both-equal e =
-      let p = and-eq-true-iff (eqb a b) (eqb x y) .0 (both-hold (eqb a b) (eqb x y) e) in
-      (eqb-true a b (p .0), eqb-true x y (p .1))
-
-  pub one-differs : (not (eqb a b) || not (eqb x y)) ≡ true → a ≡ b → x ≡ y → ⊥
-  one-differs e p q = true≢false (sym e ∙ simp (eq-eqb a b p, eq-eqb x y q))
 
 -- ---- four bytes whose pairs are complementary
 
@@ -53,7 +41,11 @@ code-again [] four e = absurd (omega arith)
 code-again (b ∷ []) four e = absurd (omega arith)
 code-again (b ∷ x ∷ []) four e = absurd (omega arith)
 code-again (b ∷ x ∷ c ∷ []) four e = absurd (omega arith)
-code-again (b ∷ x ∷ c ∷ y ∷ []) four e = let pairs = both-equal x (255 - b) y (255 - c) e in cc
+code-again (b ∷ x ∷ c ∷ y ∷ []) four e =
+    let p = and-eq-true-iff (eqb x (255 - b)) (eqb y (255 - c)) .0 (both-hold (eqb x (255 - b)) (eqb y (255 - c)) e) in
+    let ex = eqb-true x (255 - b) (p .0) in
+    let ey = eqb-true y (255 - c) (p .1) in
+    cc
 code-again (b ∷ x ∷ c ∷ y ∷ z ∷ zs) four e = absurd (omega arith)
 
 -- ---- the house and the unit taken out of b and c
@@ -95,10 +87,10 @@ low-four b =
     simp (e₃, e₂, e₁, e₀) at (sym (digits (b % 16) (omega arith)))
 
 -- b's bits 3, 1 and 0 are 0 where its low four bits have no other than bit 2
-pub low-clear : (b : ℕ) → bitAnd b 11 ≡ 0 → b % 16 ≡ b / 4 % 2 * 4
+low-clear : (b : ℕ) → bitAnd b 11 ≡ 0 → b % 16 ≡ b / 4 % 2 * 4
 low-clear b e = let m = eleven b in let l = low-four b in omega arith
 
-pub low-masked : (b : ℕ) → b % 16 ≡ b / 4 % 2 * 4 → bitAnd b 11 ≡ 0
+low-masked : (b : ℕ) → b % 16 ≡ b / 4 % 2 * 4 → bitAnd b 11 ≡ 0
 low-masked b e = let m = eleven b in let l = low-four b in omega arith
 
 -- c from its four bits, as it is from the bits of c / 8
@@ -115,7 +107,9 @@ bits-again c l z =
 module _ (b c : ℕ) where
   unit-bits : Bits (unitFrom b c) (b / 4 % 2) (c / 64 % 2) (c / 8 % 2) (c / 16 % 2)
   unfolding unitFrom
-  unit-bits = bits (unitFrom b c) (b / 4 % 2) (c / 64 % 2) (c / 8 % 2) (c / 16 % 2) (bit (b / 4)) (bit (c / 64)) (bit (c / 8)) (bit (c / 16)) refl
+  unit-bits =
+      bits (unitFrom b c) (b / 4 % 2) (c / 64 % 2) (c / 8 % 2) (c / 16 % 2)
+      (bit-below (b / 4)) (bit-below (c / 64)) (bit-below (c / 8)) (bit-below (c / 16)) refl
 
   -- the unit as the code takes it out, by masks
   pub unit-masked : bitAnd b 4 * 2 + bitAnd (c / 16) 5 + bitAnd (c / 4) 2 ≡ unitFrom b c
@@ -128,14 +122,46 @@ module _ (b c : ℕ) where
   unit-again : c < 128 → c % 8 ≡ 0 → unitInC (unitFrom b c) + c / 32 % 2 * 32 ≡ c
   unit-again l z = simp (unit-bits .four, unit-bits .two, unit-bits .one) (bits-again c l z)
 
--- ---- what the definition gives
+-- ---- which b and c are those of a code, and of which command
+
+module _ (b c : ℕ) where
+  -- a command that has this b and this c
+  pub named-by : (k : RadioCommand) → commandOk k ≡ true → byteB k ≡ b → byteC k ≡ c → (among (codeFrom b c) ≡ true) × (commandOf (codeFrom b c) ≡ k)
+  named-by k ok eb ec = rw (eb, ec) at (named-of-code k ok)
+
+  -- what the code's command, and so its kind, says of b and c
+  module _ (one : among (codeFrom b c) ≡ true) where
+    bytes-of : (byteB (commandOf (codeFrom b c)) ≡ b) × (byteC (commandOf (codeFrom b c)) ≡ c)
+    bytes-of = let same = code-of-named (codeFrom b c) one .1 in (cc, cc)
+
+    pub bits-of-switch : c < 128 → (b % 16 ≡ b / 4 % 2 * 4) × (c % 8 ≡ 0)
+    bits-of-switch l = go (commandOf (codeFrom b c)) (bytes-of .0) (bytes-of .1)
+      where
+        go : (k : RadioCommand) → byteB k ≡ b → byteC k ≡ c → (b % 16 ≡ b / 4 % 2 * 4) × (c % 8 ≡ 0)
+        go (On h u) eb ec = (omega arith, omega arith)
+        go (Off h u) eb ec = (omega arith, omega arith)
+        go (Bright h) eb ec = absurd (omega arith)
+        go (Dim h) eb ec = absurd (omega arith)
+
+    pub bits-of-step : 127 < c → (b % 16 ≡ 0) × ((c ≡ 136) ⊎ (c ≡ 152))
+    bits-of-step l = go (commandOf (codeFrom b c)) (bytes-of .0) (bytes-of .1)
+      where
+        go : (k : RadioCommand) → byteB k ≡ b → byteC k ≡ c → (b % 16 ≡ 0) × ((c ≡ 136) ⊎ (c ≡ 152))
+        go (On h u) eb ec = absurd (omega arith)
+        go (Off h u) eb ec = absurd (omega arith)
+        go (Bright h) eb ec = (omega arith, inl (sym ec))
+        go (Dim h) eb ec = (omega arith, inr (sym ec))
 
 module _ (b c : ℕ) (small : b < 256) where
-  pub bright-read : b % 16 ≡ 0 → c ≡ 136 → readAnswer (codeFrom b c) ≡ read.Command (Bright (houseOfNibble (b / 16)))
-  bright-read z e = code-given b c (Bright (houseOfNibble (b / 16))) (house-fits b small) (omega (arith, house-again b small)) (sym e)
+  -- the command that b and c name is this one
+  abbrev Names : RadioCommand → Type 0
+  Names k = (among (codeFrom b c) ≡ true) × (commandOf (codeFrom b c) ≡ k)
 
-  pub dim-read : b % 16 ≡ 0 → c ≡ 152 → readAnswer (codeFrom b c) ≡ read.Command (Dim (houseOfNibble (b / 16)))
-  dim-read z e = code-given b c (Dim (houseOfNibble (b / 16))) (house-fits b small) (omega (arith, house-again b small)) (sym e)
+  pub bright-named : b % 16 ≡ 0 → c ≡ 136 → Names (Bright (houseOfNibble (b / 16)))
+  bright-named z e = named-by b c (Bright (houseOfNibble (b / 16))) (house-fits b small) (omega (arith, house-again b small)) (sym e)
+
+  pub dim-named : b % 16 ≡ 0 → c ≡ 152 → Names (Dim (houseOfNibble (b / 16)))
+  dim-named z e = named-by b c (Dim (houseOfNibble (b / 16))) (house-fits b small) (omega (arith, house-again b small)) (sym e)
 
   module _ (low : c < 128) (pb : b % 16 ≡ b / 4 % 2 * 4) (pc : c % 8 ≡ 0) where
     fits : (leb (houseOfNibble (b / 16)) 15 && leb (unitFrom b c) 15) ≡ true
@@ -144,31 +170,38 @@ module _ (b c : ℕ) (small : b < 256) where
     b-again : houseInB (houseOfNibble (b / 16)) + unitInB (unitFrom b c) ≡ b
     b-again = simp (house-again b small, unit-bits b c .eight) (omega arith)
 
-    pub on-read : c / 32 % 2 ≡ 0 → readAnswer (codeFrom b c) ≡ read.Command (On (houseOfNibble (b / 16)) (unitFrom b c))
-    on-read z =
-        code-given b c (On (houseOfNibble (b / 16)) (unitFrom b c)) fits b-again
-        (omega (arith, unit-again b c low pc))
+    pub on-named : c / 32 % 2 ≡ 0 → Names (On (houseOfNibble (b / 16)) (unitFrom b c))
+    on-named z = named-by b c (On (houseOfNibble (b / 16)) (unitFrom b c)) fits b-again (omega (arith, unit-again b c low pc))
 
-    pub off-read : (c / 32 % 2 ≡ 0 → ⊥) → readAnswer (codeFrom b c) ≡ read.Command (Off (houseOfNibble (b / 16)) (unitFrom b c))
-    off-read z =
-        code-given b c (Off (houseOfNibble (b / 16)) (unitFrom b c)) fits b-again
-        (omega (arith, unit-again b c low pc))
+    pub off-named : (c / 32 % 2 ≡ 0 → ⊥) → Names (Off (houseOfNibble (b / 16)) (unitFrom b c))
+    off-named z = named-by b c (Off (houseOfNibble (b / 16)) (unitFrom b c)) fits b-again (omega (arith, unit-again b c low pc))
 
-module _ (b c : ℕ) where
-  pub no-step : 127 < c → (b % 16 ≡ 0 → (c ≡ 136) ⊎ (c ≡ 152) → ⊥) → readAnswer (codeFrom b c) ≡ read.Refused refusal.Code
-  no-step l never = code-refused b c (λ k ok eb ec. go k eb ec)
+-- ---- the test of b and c
+
+not-one : (t : Bool) → (t ≡ true → ⊥) → t ≡ false
+not-one true never = absurd (never refl)
+not-one false never = refl
+
+module _ (b c : ℕ) (small : b < 256) where
+  pub switch-test : c < 128 → (eqb (bitAnd b 11) 0 && eqb (c % 8) 0) ≡ among (codeFrom b c)
+  switch-test low = go (eqb (bitAnd b 11) 0) (eqb (c % 8) 0) (eqb (c / 32 % 2) 0) refl refl refl
     where
-      go : (k : RadioCommand) → byteB k ≡ b → byteC k ≡ c → ⊥
-      go (On h u) eb ec = omega arith
-      go (Off h u) eb ec = omega arith
-      go (Bright h) eb ec = never (omega arith) (inl (sym ec))
-      go (Dim h) eb ec = never (omega arith) (inr (sym ec))
+      go : (x y on : Bool) → eqb (bitAnd b 11) 0 ≡ x → eqb (c % 8) 0 ≡ y → eqb (c / 32 % 2) 0 ≡ on → (x && y) ≡ among (codeFrom b c)
+      go true true true p q z =
+          let pb = low-clear b (eqb-true (bitAnd b 11) 0 p) in
+          sym (on-named b c small low pb (eqb-true (c % 8) 0 q) (eqb-true (c / 32 % 2) 0 z) .0)
+      go true true false p q z =
+          let pb = low-clear b (eqb-true (bitAnd b 11) 0 p) in
+          sym (off-named b c small low pb (eqb-true (c % 8) 0 q) (eqb-false (c / 32 % 2) 0 z) .0)
+      go true false on p q z = sym (not-one (among (codeFrom b c)) (λ one. eqb-false (c % 8) 0 q (bits-of-switch b c one low .1)))
+      go false y on p q z = sym (not-one (among (codeFrom b c)) (λ one. eqb-false (bitAnd b 11) 0 p (low-masked b (bits-of-switch b c one low .0))))
 
-  pub no-switch : c < 128 → (b % 16 ≡ b / 4 % 2 * 4 → c % 8 ≡ 0 → ⊥) → readAnswer (codeFrom b c) ≡ read.Refused refusal.Code
-  no-switch l never = code-refused b c (λ k ok eb ec. go k eb ec)
+  pub step-test : 127 < c → (eqb (b % 16) 0 && (eqb c 136 || eqb c 152)) ≡ among (codeFrom b c)
+  step-test high = go (eqb (b % 16) 0) (eqb c 136) (eqb c 152) refl refl refl
     where
-      go : (k : RadioCommand) → byteB k ≡ b → byteC k ≡ c → ⊥
-      go (On h u) eb ec = never (omega arith) (omega arith)
-      go (Off h u) eb ec = never (omega arith) (omega arith)
-      go (Bright h) eb ec = omega arith
-      go (Dim h) eb ec = omega arith
+      go : (x y z : Bool) → eqb (b % 16) 0 ≡ x → eqb c 136 ≡ y → eqb c 152 ≡ z → (x && (y || z)) ≡ among (codeFrom b c)
+      go true true z p q r = sym (bright-named b c small (eqb-true (b % 16) 0 p) (eqb-true c 136 q) .0)
+      go true false true p q r = sym (dim-named b c small (eqb-true (b % 16) 0 p) (eqb-true c 152 r) .0)
+      go true false false p q r =
+          sym (not-one (among (codeFrom b c)) (λ one. ⊎-elim (eqb-false c 136 q) (eqb-false c 152 r) (bits-of-step b c one high .1)))
+      go false y z p q r = sym (not-one (among (codeFrom b c)) (λ one. eqb-false (b % 16) 0 p (bits-of-step b c one high .0)))

@@ -2,7 +2,7 @@
 use Prim.Native.Nat.{ℕ, _-_}
 use mathlib.Core.Bool.{Bool, _&&_}
 use mathlib.Core.List.{List, [], _∷_}
-use lib.Dec.{eqb, ltb}
+use lib.Dec.{eqb}
 use lib.ListN.{length, getD}
 use Rattle.ground.specs.Refusals.{Report, reports, refuses, Cause, unless, judged}
 use Rattle.ground.specs.declared.Refusal.the-variants as refusal
@@ -10,7 +10,7 @@ use Rattle.message.specs.declared.Function.{Function}
 use Rattle.message.specs.declared.Function.the-variants as function
 use Rattle.message.specs.declared.Message.{Message}
 use Rattle.message.specs.declared.Message.the-variants as message
-use Rattle.radio.specs.Codes.{byteB, byteC, commandOk, codePlace, commandOf}
+use Rattle.radio.specs.Codes.{byteB, byteC, commandOk, among, commandOf}
 use Rattle.radio.specs.declared.RadioCommand.{RadioCommand}
 use Rattle.radio.specs.declared.RadioCommand.the-variants.{On, Off, Bright, Dim}
 use Rattle.radio.specs.declared.RadioBytes.{RadioBytes}
@@ -46,7 +46,7 @@ abbrev pub readCauses : List ℕ → List Cause
 readCauses code =
     unless (eqb (length code) 4) refusal.RfLength
     ∷ unless (complementary code) refusal.Complement
-    ∷ unless (ltb (codePlace code) 544) refusal.Code
+    ∷ unless (among code) refusal.Code
     ∷ []
 
 unfoldable pub readAnswer : List ℕ → RadioRead

@@ -2,7 +2,7 @@
 use Prim.Native.Nat.{ℕ, _+_, _-_, _*_, _/_, _%_, _^_}
 use mathlib.Core.Bool.{Bool, true, false, _&&_}
 use mathlib.Core.List.{List, [], _∷_, _++_, flatMap, map}
-use lib.Dec.{eqb, leb}
+use lib.Dec.{eqb, leb, ltb}
 use lib.ListN.{getD}
 use Rattle.message.specs.Codes.{placeIn}
 use Rattle.radio.specs.declared.RadioCommand.{RadioCommand}
@@ -82,9 +82,12 @@ sameCode [] (y ∷ ys) = false
 sameCode (x ∷ xs) [] = false
 sameCode (x ∷ xs) (y ∷ ys) = eqb x y && sameCode xs ys
 
--- where a code stands among the 544, counted from 0; 544 where it is none of them
+-- where a code stands among the 544, counted from 0, and 544 where it is none of them; whether it is one
 unfoldable pub codePlace : List ℕ → ℕ
 codePlace code = placeIn sameCode code codes
+
+abbrev pub among : List ℕ → Bool
+among code = ltb (codePlace code) 544
 
 -- the command that has a code (A bright where none has: such bytes are refused)
 unfoldable pub commandOf : List ℕ → RadioCommand

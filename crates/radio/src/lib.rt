@@ -3,10 +3,11 @@ use ground::Refusal;
 use message::Function;
 use message::Message;
 ghost use mathlib.Core.Path.{_≡_};
+ghost use mathlib.Core.Bool.{true};
 ghost use mathlib.Core.List.{[], _∷_};
 ghost use Prim.Native.Nat.{_+_, _/_, _<_};
 ghost use Rattle.ground.specs.Refusals.{judged, reports, refuses};
-ghost use Rattle.radio.specs.Codes.{nibbleOf, houseOfNibble, commandOk, houseInB, unitInB, unitInC, byteB, byteC, codeFrom, fourBytes, commandOf};
+ghost use Rattle.radio.specs.Codes.{nibbleOf, houseOfNibble, commandOk, houseInB, unitInB, unitInC, byteB, byteC, codeFrom, fourBytes, among, commandOf};
 ghost use Rattle.radio.specs.Answers.{writeCauses, writeAnswer, writeReport, readCauses, readAnswer, readReport};
 ghost use Rattle.radio.specs.Answers.{addressThen, messagesMeant, messagesOf, messagesCauses, messagesAnswer, messagesReport};
 
@@ -122,55 +123,51 @@ pub fn write(command: RadioCommand) -> RadioBytes
     RadioBytes::Bytes(b, 255 - b, c, 255 - c)
 }
 
-// The bright or dim that b and a c of 128 or more name.
-fn step_of(house: u8, b: u8, c: u8) -> RadioRead
-    requires { ⌜ (house ≡ houseOfNibble (b / 16)) × (127 < c) ⌝ }
-    ensures { λ r. ⌜ r ≡ readAnswer (codeFrom b c) ⌝ }
+// Whether b and c are those of one of the 544 codes. Below 128 c is that of an on or off: bits 3, 1 and 0 of b and bits 2, 1 and 0 of
+// c must be 0.
+fn is_code(b: u8, c: u8) -> bool
+    ensures { λ r. ⌜ r ≡ among (codeFrom b c) ⌝ }
 {
-    if b % 16 != 0 {
-        return RadioRead::Refused(Refusal::Code);
+    if c < 128 {
+        (b & 11 == 0) & (c % 8 == 0)
+    } else {
+        (b % 16 == 0) & ((c == 136) | (c == 152))
     }
-    if c == 136 {
-        return RadioRead::Command(RadioCommand::Bright { house: house });
-    }
-    if c == 152 {
-        return RadioRead::Command(RadioCommand::Dim { house: house });
-    }
-    RadioRead::Refused(Refusal::Code)
 }
 
-// The on or off that b and a c below 128 name. Bits 3, 1 and 0 of b and bits 2, 1 and 0 of c must be 0.
-fn switch_of(house: u8, b: u8, c: u8) -> RadioRead
-    requires { ⌜ (house ≡ houseOfNibble (b / 16)) × (c < 128) ⌝ }
-    ensures { λ r. ⌜ r ≡ readAnswer (codeFrom b c) ⌝ }
+// The on or off that b and c name.
+fn switch_of(house: u8, b: u8, c: u8) -> RadioCommand
+    requires { ⌜ (house ≡ houseOfNibble (b / 16)) × (among (codeFrom b c) ≡ true) × (c < 128) ⌝ }
+    ensures { λ r. ⌜ r ≡ commandOf (codeFrom b c) ⌝ }
 {
-    if (b & 11 != 0) | (c % 8 != 0) {
-        return RadioRead::Refused(Refusal::Code);
-    }
     // b's bit 2 is the unit's 8; in c / 16 its 4 and 1 stand at their own places, and in c / 4 its 2.
     let unit = (b & 4) * 2 + ((c / 16) & 5) + ((c / 4) & 2);
     if c / 32 % 2 == 0 {
-        RadioRead::Command(RadioCommand::On {
+        RadioCommand::On {
             house: house,
             unit: unit,
-        })
+        }
     } else {
-        RadioRead::Command(RadioCommand::Off {
+        RadioCommand::Off {
             house: house,
             unit: unit,
-        })
+        }
     }
 }
 
 // The command that b and c name. One call of house_of_nibble for both kinds keeps read small enough to be inlined.
-fn command_of(b: u8, c: u8) -> RadioRead
-    ensures { λ r. ⌜ r ≡ readAnswer (codeFrom b c) ⌝ }
+fn command_of(b: u8, c: u8) -> RadioCommand
+    requires { ⌜ among (codeFrom b c) ≡ true ⌝ }
+    ensures { λ r. ⌜ r ≡ commandOf (codeFrom b c) ⌝ }
 {
     let house = house_of_nibble(b / 16);
     if c < 128 {
-        switch_of(house, b, c)
+        return switch_of(house, b, c);
+    }
+    if c == 136 {
+        RadioCommand::Bright { house: house }
     } else {
-        step_of(house, b, c)
+        RadioCommand::Dim { house: house }
     }
 }
 
@@ -188,7 +185,10 @@ pub fn read(code: &[u8]) -> RadioRead
     if (code[1] != 255 - b) | (code[3] != 255 - c) {
         return RadioRead::Refused(Refusal::Complement);
     }
-    command_of(b, c)
+    if !is_code(b, c) {
+        return RadioRead::Refused(Refusal::Code);
+    }
+    RadioRead::Command(command_of(b, c))
 }
 
 // An address, then a function.

@@ -28,7 +28,8 @@ use Rattle.receiver.specs.declared.Receiver.{Receiver}
 use Rattle.receiver.specs.declared.Event.the-variants.{Nothing, Message as Gives, Repeat, BrokenPair}
 use Rattle.receiver_laws.specs.Whole.{Ready, frameEvents, lastSix}
 use Rattle.receiver_laws.proofs.Runs.{Run, run-none, run-more, run-append}
-use Rattle.receiver_laws.proofs.Steps.{standing, standing-ok, hunting-ok, NoStart, no-start-one, hunts-on, hunts-start, step-wanted, step-unwanted, step-first, step-second, step-equal}
+use Rattle.receiver_laws.proofs.Steps.{standing, standing-ok, hunting-ok, NoStart, no-start-one, hunts-on, hunts-start, step-wanted, step-unwanted}
+use Rattle.receiver_laws.proofs.Steps.{step-first, step-second, step-equal}
 use Rattle.receiver_laws.proofs.FrameBits.{Framed, twice, one-more-bit, pairs-few}
 use Rattle.receiver_laws.proofs.Pasts.{start, paired}
 

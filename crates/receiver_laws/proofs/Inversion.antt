@@ -33,9 +33,11 @@ use Rattle.receiver_laws.proofs.Runs.{Run, run-none, run-more}
 use Rattle.receiver_laws.proofs.Steps.{standing, hunting-ok, no-start-past}
 use Rattle.receiver_laws.proofs.FrameBits.{Framed, framed}
 use Rattle.receiver_laws.proofs.Pasts.{start, paired, Bits, bits-of, Clean, clean-pair, clean-start, clean-frame}
-use Rattle.receiver_laws.proofs.FrameHeard.{Before, reading, bit, first-half, equal-half, before-next, reads-pair, Started, ready-starts, awaiting, awaits-on, awaits-off, awaiting-starts, hears-frame}
+use Rattle.receiver_laws.proofs.FrameHeard.{Before, reading, bit, first-half, equal-half, before-next, reads-pair, Started, ready-starts, awaiting}
+use Rattle.receiver_laws.proofs.FrameHeard.{awaits-on, awaits-off, awaiting-starts, hears-frame}
 use Rattle.receiver_laws.proofs.Rests.{Rests, rests-fresh, rests-step, rests-next, rests-ready}
-use Rattle.receiver_laws.proofs.Hush.{Hush, hush-run, hush-append, hush-clear, Calm, hush-pairs, calm-pairs, calm-equal, hush-frame, calm-frame, Steady, hush-start, calm-start}
+use Rattle.receiver_laws.proofs.Hush.{Hush, hush-run, hush-append, hush-clear, Calm, hush-pairs, calm-pairs, calm-equal, hush-frame, calm-frame, Steady}
+use Rattle.receiver_laws.proofs.Hush.{hush-start, calm-start}
 use Rattle.receiver_laws.proofs.Told.{tells, told-nothing, told-frame, tells-run, quietly, hush-tells}
 
 abbrev Inverts : List ℕ → List ℕ → ℕ → Type 0

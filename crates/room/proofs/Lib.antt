@@ -4,3 +4,4 @@ pub mod HouseLaws
 pub mod ApplyLaws
 pub mod Levels
 pub mod RadioLaws
+pub mod MainsLaws

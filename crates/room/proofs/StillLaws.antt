@@ -19,7 +19,8 @@ use Rattle.record.specs.declared.Record.{Record}
 use Rattle.record.specs.declared.House.{House}
 use Rattle.record.specs.Layout.{RECORDS, TABLE-BYTES, recordAt, put, present, withAddressed}
 use Rattle.record.specs.ModuleTable.{relevel, addressed, acted, stepRecord}
-use Rattle.room.specs.Lent.{Stepped, mayChange, Spares}
+use Rattle.room.specs.Lent.{Stepped}
+use Rattle.room.specs.Reaches.{mayChange, Spares}
 use Rattle.room.specs.declared.table.Reach.{Reach}
 use Rattle.room.proofs.TableLaws.{put-same}
 

@@ -1,17 +1,24 @@
--- What the routines over lent bytes promise beside the definitions of 01's section: one record stepped where it lies, and which
--- records of a house an act leaves as they are.
-use Prim.Native.Nat.{ℕ, _≤_}
+-- What the private routines over lent bytes promise beside the definitions of 01's section: one record stepped where it lies, and events
+-- read back from their bytes.
+use Prim.Native.Nat.{ℕ, zero, suc, _≤_}
 use mathlib.Core.Path.{_≡_}
-use mathlib.Core.Bool.{Bool, false, not, _&&_, _||_}
-use mathlib.Core.List.{List}
+use mathlib.Core.List.{List, [], _++_}
 use lib.Dec.{eqb}
+use lib.ListN.{getD, drop}
 use Rattle.ground.specs.Choice.{pick}
+use Rattle.ground.specs.Refusals.{judged}
+use Rattle.wire.specs.Messages.{messageIn}
+use Rattle.wire.specs.Packed.{packed}
+use Rattle.wire.specs.declared.MessageRead.{MessageRead}
+use Rattle.wire.specs.declared.MessageRead.the-variants.{Message as Says, Refused as NoMessage}
 use Rattle.plan.specs.declared.Act.{Act}
 use Rattle.record.specs.Layout.{recordAt, put}
 use Rattle.record.specs.ModuleTable.{stepRecord}
 use Rattle.record.specs.declared.House.{House}
-use Rattle.record.specs.declared.Record.{Record}
-use Rattle.room.specs.declared.table.Reach.{Reach}
+use Rattle.room.specs.Rooms.{Room, changes, roomAfter, applyAnswer, tallied}
+use Rattle.room.specs.Mains.{answerBytes, Lending, eventCauses, mainsRoom, mainsLent}
+use Rattle.room.specs.declared.RoomAnswer.{RoomAnswer}
+use Rattle.room.specs.declared.RoomAnswer.the-variants.{Done, Refused}
 
 -- record i is stepped as that of unit n, and the answer is 1 where its level changed
 pub record Stepped (a : Act) (own : House) (n i : ℕ) (before after : List ℕ) (answer : ℕ) : Type 0 where
@@ -19,10 +26,37 @@ pub record Stepped (a : Act) (own : House) (n i : ℕ) (before after : List ℕ)
   pub count : answer ≡ pick (eqb (recordAt before i .level) (stepRecord a own n (recordAt before i) .level)) 0 1
   pub small : answer ≤ 1
 
--- whether the record of unit n is among those told: any, that of the unit, or one that is addressed
-abbrev pub mayChange : Reach → ℕ → Record → Bool
-mayChange o n r = o .any || (eqb n (o .unit) || (o .called && not (eqb (r .addressed) 0)))
+-- a message that was read, applied
+abbrev pub readRoom : MessageRead → Room → Room
+readRoom (Says m) room = roomAfter m room
+readRoom (NoMessage why) room = room
 
--- an act leaves every record that is not among them
-pub record Spares (a : Act) (own : House) (o : Reach) : Type 0 where
-  pub stays : (n : ℕ) (r : Record) → mayChange o n r ≡ false → stepRecord a own n r ≡ r
+abbrev pub readAnswer : MessageRead → Room → ℕ
+readAnswer (Says m) room = packed (tallied (applyAnswer m room))
+readAnswer (NoMessage why) room = 0
+
+-- an event by its code and its message
+abbrev pub codedRoom : ℕ → MessageRead → Room → Room
+codedRoom code read room = pick (eqb code 1) (readRoom read room) room
+
+abbrev pub codedAnswer : ℕ → MessageRead → Room → ℕ
+codedAnswer code read room = pick (eqb code 1) (readAnswer read room) 0
+
+-- n events, six bytes each, one after the other
+abbrev pub firstRoom : List ℕ → Room → Room
+firstRoom bytes room = codedRoom (getD bytes 0 0) (messageIn (drop 1 bytes)) room
+
+unfoldable pub codedRooms : ℕ → List ℕ → Room → Room
+codedRooms zero bytes room = room
+codedRooms (suc n) bytes room = codedRooms n (drop 6 bytes) (firstRoom bytes room)
+
+unfoldable pub codedAnswers : ℕ → List ℕ → Room → List ℕ
+codedAnswers zero bytes room = []
+codedAnswers (suc n) bytes room =
+    answerBytes (codedAnswer (getD bytes 0 0) (messageIn (drop 1 bytes)) room) ++ codedAnswers n (drop 6 bytes) (firstRoom bytes room)
+
+-- the mains route once the room, the receiver and the answers' buffer are judged: what is left of its causes is room for the events
+pub record Routed (l : Lending) (room : Room) (answer : RoomAnswer) (lentThen : Lending) (roomThen : Room) : Type 0 where
+  pub answer-of : answer ≡ judged (eventCauses l) (Done (changes room (mainsRoom l room))) Refused
+  pub room-of : roomThen ≡ judged (eventCauses l) (mainsRoom l room) (λ why. room)
+  pub lent-of : lentThen ≡ judged (eventCauses l) (mainsLent l room) (λ why. l)

@@ -64,14 +64,16 @@ pub record Lending : Type 0 where
 abbrev pub lentTo : List ℕ → List ℕ → List ℕ → List ℕ → Lending
 lentTo state halves events answers = record { state = state; halves = halves; events = events; answers = answers }
 
+abbrev pub eventCauses : Lending → List Cause
+eventCauses l = unless (leb (6 * length (l .halves)) (length (l .events))) refusal.Short ∷ []
+
 -- 1 and 3; 6 for a receiver in no state that there is; 9 where the answers, eight bytes each, or the events, six, have no room
 abbrev pub mainsCauses : Lending → Room → List Cause
 mainsCauses l room =
     roomCauses room
     ++ (unless (holdsReceiver (l .state)) refusal.State
     ∷ unless (leb (8 * length (l .halves)) (length (l .answers))) refusal.Short
-    ∷ unless (leb (6 * length (l .halves)) (length (l .events))) refusal.Short
-    ∷ [])
+    ∷ eventCauses l)
 
 -- the events of the half-cycles, and the room once their messages have been applied
 abbrev pub heard : Lending → List Event

@@ -1,4 +1,5 @@
 // A room: its lent module table, judged once, and a message applied to it.
+use ground::CountAnswer;
 use ground::Refusal;
 use message::Message;
 use plan::Plan;
@@ -9,8 +10,9 @@ use table::run_act;
 ghost use mathlib.Core.Path.{_≡_};
 ghost use mathlib.Core.Bool.{true};
 ghost use Rattle.record.specs.ModuleTable.{tableOk};
-ghost use Rattle.room.specs.Rooms.{roomOf, roomAfter, applyAnswer, applyReport, roomReport};
+ghost use Rattle.room.specs.Rooms.{roomOf, roomAfter, applyAnswer, applyReport, roomReport, tallied};
 
+pub mod mains;
 pub mod routes;
 mod table;
 
@@ -24,6 +26,16 @@ pub struct Changes {
 pub enum RoomAnswer {
     Done(Changes),
     Refused(Refusal),
+}
+
+// The counts of an answer as one count, which the exported routines pack.
+pub fn tally(a: RoomAnswer) -> CountAnswer
+    ensures { λ r. ⌜ r ≡ tallied a ⌝ }
+{
+    match a {
+        RoomAnswer::Done(c) => CountAnswer::Done(c.levels),
+        RoomAnswer::Refused(why) => CountAnswer::Refused(why),
+    }
 }
 
 // As `apply`, on a table that the caller has judged, so that a route of several messages judges the records once.

@@ -20,7 +20,8 @@ ghost use lib.ListN.{length};
 ghost use Rattle.record.specs.declared.Record.{Record};
 ghost use Rattle.record.specs.Layout.{RECORDS, HOUSES, UNITS, TABLE-BYTES, recordAt, put, houseAt, putHouse};
 ghost use Rattle.record.specs.ModuleTable.{recordOk, houseOk, recordsOk, housesOk, tableOk, obeyed, stepHouse, runAct, changed};
-ghost use Rattle.room.specs.Lent.{Stepped, mayChange, Spares};
+ghost use Rattle.room.specs.Lent.{Stepped};
+ghost use Rattle.room.specs.Reaches.{mayChange, Spares};
 
 // Record i of a table.
 fn load(t: &[u8], i: usize) -> Record

@@ -48,7 +48,9 @@ start-one hs (suc (suc (suc p))) h = absurd (omega arith)
 pub start-zero : (hs : List ℕ) (p : ℕ) → 3 ≤ p → p < 4 → getD (1 ∷ 1 ∷ 1 ∷ 0 ∷ hs) p 0 ≡ 0
 start-zero hs p h k = let e : p ≡ 3 = omega arith in rw e
 
-pub frame-pair : (k w p : ℕ) → 4 ≤ p → p < 4 + (k + k) → getD (1 ∷ 1 ∷ 1 ∷ 0 ∷ pairsOf (bitsOf k w)) p 0 ≡ pick (eqb ((p - 4) % 2) 0) (w / 2 ^ (k - 1 - (p - 4) / 2) % 2) (1 - w / 2 ^ (k - 1 - (p - 4) / 2) % 2)
+pub frame-pair : (k w p : ℕ) → 4 ≤ p → p < 4 + (k + k)
+    → getD (1 ∷ 1 ∷ 1 ∷ 0 ∷ pairsOf (bitsOf k w)) p 0
+    ≡ pick (eqb ((p - 4) % 2) 0) (w / 2 ^ (k - 1 - (p - 4) / 2) % 2) (1 - w / 2 ^ (k - 1 - (p - 4) / 2) % 2)
 frame-pair k w p h l =
     let bits = bitsOf k w in
     let past : p ≡ 4 + (p - 4) = omega arith in

@@ -22,7 +22,8 @@ use Rattle.station.proofs.SlotLaws.{length-moved, length-done}
 
 -- ---- the draws
 
-pub draws-more : (n : ℕ) (draws : List ℕ) (i : ℕ) → n ≤ length draws → i < n → drawsOk (slice i n draws) ≡ (drawOk (getD draws i 0) && drawsOk (slice (suc i) n draws))
+pub draws-more : (n : ℕ) (draws : List ℕ) (i : ℕ) → n ≤ length draws → i < n
+    → drawsOk (slice i n draws) ≡ (drawOk (getD draws i 0) && drawsOk (slice (suc i) n draws))
 unfolding drawsOk
 draws-more n draws i enough h = rw (slice-cons i n draws 0 h enough)
 
@@ -55,7 +56,8 @@ heard-none n slots =
       long = length-replicate (length slots) 0;
     }
 
-module _ {n : ℕ} {slots : List Station} {line : ℕ} {sent : List ℕ} {i : ℕ} (few : n ≤ length slots) (h : i < n) (e : Station) (r : Heard n slots line sent i) where
+module _ {n : ℕ} {slots : List Station} {line : ℕ} {sent : List ℕ} {i : ℕ} (few : n ≤ length slots) (h : i < n) (e : Station)
+    (r : Heard n slots line sent i) where
   next : slice i n slots ≡ getD slots i e ∷ slice (suc i) n slots
   next = slice-cons i n slots e h few
 
@@ -126,20 +128,23 @@ module _ {n line : ℕ} {slots : List Station} {draws : List ℕ} (few : n ≤ l
   pub moving-none : Moving n line slots draws slots (replicate (length slots) false) 0
   moving-none =
       let first : length (take n slots) ≡ n = length-take-le n slots few in
+      let marks : List Bool = doneAll line (take n slots) (take n draws) in
+      let many : length marks ≡ n = length-done line (take n slots) (take n draws) ∙ first in
       let all : length (replicate (length slots) false) ≡ length slots = length-replicate (length slots) false in
       record {
         within = omega arith;
         moved = front slots (moveAll line (take n slots) (take n draws)) n (length-moved line (take n slots) (take n draws) ∙ first) few;
         marked =
-            front (replicate (length slots) false) (doneAll line (take n slots) (take n draws)) n (length-done line (take n slots) (take n draws) ∙ first) (omega arith)
-            ∙ ap (λ (xs : List Bool). doneAll line (take n slots) (take n draws) ++ xs) (drop-replicate (length slots) n false);
+            front (replicate (length slots) false) marks n many (omega arith)
+            ∙ ap (λ (xs : List Bool). marks ++ xs) (drop-replicate (length slots) n false);
         rest = λ k d h. refl;
         unmarked = λ k h. getD-same (length slots) k false;
         long = refl;
         marks = all;
       }
 
-  module _ (enough : n ≤ length draws) {after : List Station} {done : List Bool} {i : ℕ} (h : i < n) (e : Station) (r : Moving n line slots draws after done i) where
+  module _ (enough : n ≤ length draws) {after : List Station} {done : List Bool} {i : ℕ} (h : i < n) (e : Station)
+      (r : Moving n line slots draws after done i) where
     -- what one half-cycle makes of the next station, which is still as it was
     abbrev turnNext : Turn
     turnNext = turnOf (getD after i e) line (getD draws i 0)
@@ -147,14 +152,17 @@ module _ {n line : ℕ} {slots : List Station} {draws : List ℕ} (few : n ≤ l
     pub as-it-was : getD after i e ≡ getD slots i e
     as-it-was = r .rest i e (le-refl i)
 
-    pub moving-more : (s : Station) (mark : Bool) → turnNext .next ≡ s → isDone (turnNext .answer) ≡ mark → Moving n line slots draws (set after i s) (set done i mark) (suc i)
+    pub moving-more : (s : Station) (mark : Bool) → turnNext .next ≡ s → isDone (turnNext .answer) ≡ mark
+        → Moving n line slots draws (set after i s) (set done i mark) (suc i)
     unfolding moveAll doneAll
     moving-more s mark is says =
         let station = slice-cons i n slots e h few in
         let draw = slice-cons i n draws 0 h enough in
-        let one : sets after i (moveAll line (slice i n slots) (slice i n draws)) ≡ sets (set after i s) (suc i) (moveAll line (slice (suc i) n slots) (slice (suc i) n draws)) =
+        let moved = moveAll line (slice (suc i) n slots) (slice (suc i) n draws) in
+        let marked = doneAll line (slice (suc i) n slots) (slice (suc i) n draws) in
+        let one : sets after i (moveAll line (slice i n slots) (slice i n draws)) ≡ sets (set after i s) (suc i) moved =
         rw (station, draw, ← as-it-was, is) in
-        let mark-one : sets done i (doneAll line (slice i n slots) (slice i n draws)) ≡ sets (set done i mark) (suc i) (doneAll line (slice (suc i) n slots) (slice (suc i) n draws)) =
+        let mark-one : sets done i (doneAll line (slice i n slots) (slice i n draws)) ≡ sets (set done i mark) (suc i) marked =
         rw (station, draw, ← as-it-was, says) in
         record {
           within = h;

@@ -77,7 +77,10 @@ draw-at n draws enough i h t =
     rw (getD-take n draws i 0 h) at (draw-in (take n draws) i t (rw (length-take-le n draws enough) h))
 
 -- a bench that has judged its stations and draws, and has heard the line, may move each of them
-pub ready-at : (n : ℕ) (slots : List Station) (draws sent : List ℕ) (line : ℕ) → n ≤ length slots → n ≤ length draws → stationsOk (take n slots) ≡ true → drawsOk (take n draws) ≡ true → line ≡ lineOf (take n slots) → take n sent ≡ map sendsOf (take n slots) → (i : ℕ) → i < n → (e : Station) → Ready (getD slots i e) (getD sent i 0) line (getD draws i 0)
+pub ready-at : (n : ℕ) (slots : List Station) (draws sent : List ℕ) (line : ℕ) → n ≤ length slots → n ≤ length draws
+    → stationsOk (take n slots) ≡ true → drawsOk (take n draws) ≡ true → line ≡ lineOf (take n slots)
+    → take n sent ≡ map sendsOf (take n slots) → (i : ℕ) → i < n → (e : Station)
+    → Ready (getD slots i e) (getD sent i 0) line (getD draws i 0)
 ready-at n slots draws sent line few enough ok drawn heard kept i h e =
     let is = sent-at n slots few i h e sent kept in
     record {
@@ -109,7 +112,10 @@ abbrev withPlace : ℕ → Station → Station
 withPlace p s = record { held = s .held; wait = s .wait; count = s .count; place = p }
 
 -- one number after the other
-pub three-numbers : (ss : List Station) (i : ℕ) (e : Station) (w c p : ℕ) → i < length ss → let one = set ss i (withWait w (getD ss i e)) in let two = set one i (withCount c (getD one i e)) in set two i (withPlace p (getD two i e)) ≡ set ss i (record { held = getD ss i e .held; wait = w; count = c; place = p })
+pub three-numbers : (ss : List Station) (i : ℕ) (e : Station) (w c p : ℕ) → i < length ss
+    → let one = set ss i (withWait w (getD ss i e)) in
+    let two = set one i (withCount c (getD one i e)) in
+    set two i (withPlace p (getD two i e)) ≡ set ss i (record { held = getD ss i e .held; wait = w; count = c; place = p })
 three-numbers ss i e w c p h =
     let s = withWait w (getD ss i e) in
     again (set ss i s) i e (withCount c (getD (set ss i s) i e)) (withPlace p) (lt-length-set ss i s h)

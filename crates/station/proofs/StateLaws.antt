@@ -36,10 +36,12 @@ module _ (m : Message) (wait count : ℕ) where
       rw (le-leb count wait (omega arith), lt-leb wait count l, eqb·suc-zero place)
       (ap (λ (b : Bool). drawOk wait && b) (and-false (ltb (suc place) (burstLength m))))
 
-  pub idle-holds : (place : ℕ) → (heldOk (Holds m) wait count place && isQuiet (Holds m) wait count) ≡ (drawOk wait && (ltb count wait && (eqb place 0 && messageOk m)))
+  pub idle-holds : (place : ℕ)
+      → (heldOk (Holds m) wait count place && isQuiet (Holds m) wait count) ≡ (drawOk wait && (ltb count wait && (eqb place 0 && messageOk m)))
   idle-holds place = go (decLt count wait)
     where
-      go : Dec (count < wait) → (heldOk (Holds m) wait count place && ltb count wait) ≡ (drawOk wait && (ltb count wait && (eqb place 0 && messageOk m)))
+      go : Dec (count < wait)
+          → (heldOk (Holds m) wait count place && ltb count wait) ≡ (drawOk wait && (ltb count wait && (eqb place 0 && messageOk m)))
       go (yes l) = rw (lt-ltb count wait l) (and-true (heldOk (Holds m) wait count place) ∙ at-first place l)
       go (no l) =
           rw (le-ltb count wait (omega arith))
@@ -47,8 +49,12 @@ module _ (m : Message) (wait count : ℕ) where
 
   -- ---- not idle
 
+  -- what is tested of one that does not wait
+  abbrev busyOk : ℕ → Bool
+  busyOk place = (drawOk wait && messageOk m) && (eqb count wait && ltb place (burstLength m))
+
   -- the count has come to the wait
-  at-wait : (place : ℕ) → count ≡ wait → heldOk (Holds m) wait count place ≡ ((drawOk wait && messageOk m) && (eqb count wait && ltb place (burstLength m)))
+  at-wait : (place : ℕ) → count ≡ wait → heldOk (Holds m) wait count place ≡ busyOk place
   at-wait place e =
       rw (le-leb count wait (omega arith), le-leb wait count (omega arith), eq-eqb count wait e, or-true (eqb place 0))
       (turned (drawOk wait) (ltb place (burstLength m)) (messageOk m))
@@ -57,15 +63,16 @@ module _ (m : Message) (wait count : ℕ) where
       turned a b c = ap (λ (x : Bool). a && x) (and-comm b c) ∙ sym (and-assoc a c b)
 
   -- the count is past the wait
-  past-wait : (place : ℕ) → wait < count → heldOk (Holds m) wait count place ≡ ((drawOk wait && messageOk m) && (eqb count wait && ltb place (burstLength m)))
+  past-wait : (place : ℕ) → wait < count → heldOk (Holds m) wait count place ≡ busyOk place
   past-wait place l =
       rw (lt-leb count wait l, ne-eqb count wait (λ e. omega arith))
       (and-false (drawOk wait) ∙ sym (and-false (drawOk wait && messageOk m)))
 
-  held-busy : (place : ℕ) → (heldOk (Holds m) wait count place && isQuiet (Holds m) wait count) ≡ false → heldOk (Holds m) wait count place ≡ ((drawOk wait && messageOk m) && (eqb count wait && ltb place (burstLength m)))
+  held-busy : (place : ℕ) → (heldOk (Holds m) wait count place && isQuiet (Holds m) wait count) ≡ false
+      → heldOk (Holds m) wait count place ≡ busyOk place
   held-busy place busy = go (decLt count wait) (decLt wait count)
     where
-      go : Dec (count < wait) → Dec (wait < count) → heldOk (Holds m) wait count place ≡ ((drawOk wait && messageOk m) && (eqb count wait && ltb place (burstLength m)))
+      go : Dec (count < wait) → Dec (wait < count) → heldOk (Holds m) wait count place ≡ busyOk place
       go (yes l) d =
           rw (ne-eqb count wait (λ e. omega arith))
           (sym (and-true (heldOk (Holds m) wait count place)) ∙ (rw (lt-ltb count wait l) at busy) ∙ sym (and-false (drawOk wait && messageOk m)))
@@ -81,7 +88,8 @@ module _ (s : Station) (busy : idleOf s ≡ false) where
       let whole = ap (λ (h : Held). heldOk h (s .wait) (s .count) (s .place) && isQuiet h (s .wait) (s .count)) e in
       ap (λ (h : Held). heldOk h (s .wait) (s .count) (s .place)) e ∙ sym (idle-empty (s .wait) (s .count) (s .place)) ∙ sym whole ∙ busy
 
-  pub holds-busy : (m : Message) → s .held ≡ Holds m → stationOk s ≡ ((drawOk (s .wait) && messageOk m) && (eqb (s .count) (s .wait) && ltb (s .place) (burstLength m)))
+  pub holds-busy : (m : Message) → s .held ≡ Holds m
+      → stationOk s ≡ ((drawOk (s .wait) && messageOk m) && (eqb (s .count) (s .wait) && ltb (s .place) (burstLength m)))
   unfolding idleOf stationOk
   holds-busy m e =
       let whole = ap (λ (h : Held). heldOk h (s .wait) (s .count) (s .place) && isQuiet h (s .wait) (s .count)) e in

@@ -22,7 +22,8 @@ use Rattle.ground.proofs.Choices.{pick-both}
 use Rattle.ground.proofs.Causes.{judged-map}
 use Rattle.message.specs.declared.Message.{Message}
 use Rattle.burst.specs.Frames.{burstOf, burstLength}
-use Rattle.station.specs.Stations.{emptyStation, loaded, drawOk, heldOk, stationOk, loadOf, loadCauses, loadReport, heldSends, sendsOf, sendOf, sendCauses, sendReport, heldMoves, turnCauses, turnOf, isDone, turnReport, turnBy}
+use Rattle.station.specs.Stations.{emptyStation, loaded, drawOk, heldOk, stationOk, loadOf, loadCauses, loadReport, heldSends, sendsOf, sendOf}
+use Rattle.station.specs.Stations.{sendCauses, sendReport, heldMoves, turnCauses, turnOf, isDone, turnReport, turnBy}
 use Rattle.station.specs.declared.Held.{Held}
 use Rattle.station.specs.declared.Held.the-variants.{Empty, Holds}
 use Rattle.station.specs.declared.Loading.{Loading}

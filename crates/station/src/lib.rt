@@ -12,7 +12,8 @@ ghost use Rattle.ground.specs.Refusals.{judged, reports, refuses, refusalNumber
 ghost use Rattle.message.specs.Messages.{messageOk};
 ghost use Rattle.burst.specs.Frames.{bitsOf, pairsOf, burstOf, burstLength};
 ghost use Rattle.station.specs.declared.Held.the-variants.{Holds};
-ghost use Rattle.station.specs.Stations.{emptyStation, drawOk, stationOk, loadOf, loadReport, loadCauses, sendsOf, sendOf, sendReport, sendCauses, idleOf, turnBy, heldMoves, isDone, turnOf, turnReport, turnCauses};
+ghost use Rattle.station.specs.Stations.{emptyStation, drawOk, stationOk, loadOf, loadReport, loadCauses, sendsOf, sendOf, sendReport, sendCauses};
+ghost use Rattle.station.specs.Stations.{idleOf, turnBy, heldMoves, isDone, turnOf, turnReport, turnCauses};
 
 pub mod bench;
 
@@ -62,11 +63,11 @@ pub struct Turn {
 }
 
 // The numbers of a station with a message after a half-cycle. Where it is done it has sent its whole burst, and is empty.
-pub struct Move {
-    pub done: bool,
-    pub wait: u8,
-    pub count: u8,
-    pub place: u8,
+pub(crate) struct Move {
+    done: bool,
+    wait: u8,
+    count: u8,
+    place: u8,
 }
 
 // A station that has counted nothing and sent nothing.
@@ -95,6 +96,7 @@ pub fn draw_ok(draw: u8) -> bool
     (8 <= draw) & (draw <= 10)
 }
 
+// How many half-cycles a message's burst has.
 fn burst_length(m: Message) -> u8
     ensures { λ r. ⌜ r ≡ burstLength m ⌝ }
 {
@@ -274,7 +276,8 @@ pub(crate) fn moves(m: Message, s: Station, sent: u8, heard: u8, draw: u8) -> Mo
 // One half-cycle of a station, with what it heard and a draw.
 pub fn advance(s: Station, heard: u8, draw: u8) -> Turn
     ensures answer { λ o. ⌜ o ≡ turnOf s heard draw ⌝ }
-    ensures report { λ o. ⌜ turnReport (o .answer) ≡ judged (turnCauses s heard draw) (reports (isDone (heldMoves (s .held) s heard draw .answer) ∷ [])) refuses ⌝ }
+    ensures report { λ o. ⌜ turnReport (o .answer)
+        ≡ judged (turnCauses s heard draw) (reports (isDone (heldMoves (s .held) s heard draw .answer) ∷ [])) refuses ⌝ }
 {
     if 1 < heard {
         return Turn {

@@ -2,8 +2,7 @@
 mod page;
 mod stations;
 
-use bench::BenchAnswer;
-use bench::BenchTurn;
+use ground::refusal_number;
 use libc::STDOUT_FILENO;
 use page::cell;
 use page::put;
@@ -16,6 +15,9 @@ use page::row_at;
 use station::Held;
 use station::SendAnswer;
 use station::Station;
+use station::bench::BenchAnswer;
+use station::bench::BenchTurn;
+use station::bench::half_cycle;
 use stations::a_against_b;
 use stations::all_empty;
 use stations::draws_at;
@@ -30,7 +32,7 @@ const LONGEST: usize = 2144;
 fn sent_mark(s: Station) -> u8 {
     match station::sends(s) {
         SendAnswer::Sends(half) => b'0' + half % 2,
-        SendAnswer::RefusedState => b'?',
+        SendAnswer::Refused(_) => b'?',
     }
 }
 
@@ -61,8 +63,7 @@ fn mark(before: Station, after: Station, done: bool) -> u8 {
 fn line_mark(answer: BenchAnswer) -> u8 {
     match answer {
         BenchAnswer::Line(half) => b'0' + half % 2,
-        BenchAnswer::RefusedState => b'6',
-        BenchAnswer::RefusedDraw => b'7',
+        BenchAnswer::Refused(why) => b'0' + refusal_number(why) % 10,
     }
 }
 
@@ -129,7 +130,7 @@ fn run(page: &mut [u8; 65536], at: usize, start: [Station; 16], n: usize, fixed:
                 next = row_at(drawing, n + 2);
             }
         }
-        let turn = bench::half_cycle(slots, n, draws_at(t, fixed));
+        let turn = half_cycle(slots, n, draws_at(t, fixed));
         put_column(page, drawing, column, slots, turn, n);
         let after = turn.slots;
         slots = after;

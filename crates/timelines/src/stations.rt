@@ -3,8 +3,7 @@ use crate::page::put_number;
 use crate::page::put_text;
 use message::Function;
 use message::Message;
-use message::codes::function_code;
-use message::codes::name_at;
+use message::codes::name_of;
 use station::Held;
 use station::Station;
 
@@ -144,7 +143,7 @@ fn put_house(page: &mut [u8; 65536], at: usize, house: u8) -> usize {
 
 // A function by its name, which is filled up with 0.
 fn put_name(page: &mut [u8; 65536], at: usize, function: Function) -> usize {
-    let name = name_at(function_code(function));
+    let name = name_of(function);
     let mut to = at;
     let mut i: usize = 0;
     while i < 16 {

@@ -23,7 +23,8 @@ use lib.Seq.{sets, take-suc, drop-cons}
 use Rattle.ground.specs.Choice.{pick}
 use Rattle.receiver.specs.Receivers.{stepOf}
 use Rattle.trace_lines.specs.Lines.{lineText, lineOf, Put, LAST}
-use Rattle.trace_lines.specs.Trace.{isHalf, isSkipped, printed, halfAfter, byteAfter, traceFrom, progressAfter, takenFrom, pieceText, tracedOf, bufferAfter, Follows}
+use Rattle.trace_lines.specs.Trace.{isHalf, isSkipped, printed, halfAfter, byteAfter, traceFrom, progressAfter, Follows}
+use Rattle.trace_lines.specs.Trace.{takenFrom, pieceText, tracedOf, bufferAfter}
 use Rattle.trace_lines.specs.declared.Line.the-variants.{BadByte}
 use Rattle.trace_lines.specs.declared.Progress.{Progress}
 use Rattle.trace_lines.specs.declared.Traced.{Traced}
@@ -190,7 +191,8 @@ module _ {input out₀ : List ℕ} {p : Progress} {out : List ℕ} {q : Progress
       )
 
 -- the rest of a piece of which some bytes are taken
-pub piece-taken : (p : Progress) (s : List ℕ) (t : Traced) → t ≡ tracedOf p s → (t .taken ≡ takenFrom p 0 s) × (progressAfter (t .progress) (drop (t .taken) s) ≡ progressAfter p s)
+pub piece-taken : (p : Progress) (s : List ℕ) (t : Traced) → t ≡ tracedOf p s
+    → (t .taken ≡ takenFrom p 0 s) × (progressAfter (t .progress) (drop (t .taken) s) ≡ progressAfter p s)
 unfolding tracedOf
 piece-taken p s t e =
     let k = takenFrom p 0 s in (

@@ -295,7 +295,9 @@ pub(crate) fn begin() -> Progress
 // One half-cycle, with its line.
 fn print_half(p: Progress, half: u8, out: &mut [u8; SIZE], at: usize) -> Printed
     requires { ⌜ at ≤ 65472 ⌝ }
-    ensures { λ o. ⌜ (o .progress ≡ halfAfter p half) × Put (now (out .entry)) at (lineOf (p .number) (stepOf (p .receiver) half .event)) (now (out .exit)) (o .at) ⌝ }
+    ensures { λ o.
+        ⌜ (o .progress ≡ halfAfter p half)
+        × Put (now (out .entry)) at (lineOf (p .number) (stepOf (p .receiver) half .event)) (now (out .exit)) (o .at) ⌝ }
 {
     let r = p.receiver;
     let heard = step(r, half);

@@ -45,8 +45,9 @@ loop-again c =
 returns : tie.Need-returns Inv-loop μ-loop
 returns c =
     let now = c .before .loop in
-    let all : now .i ≡ c .before .before .args .n = omega arith in
-    ap (λ (k : ℕ). take k (now .own)) (sym all) ∙ now .inv .2 ∙ ap (λ (k : ℕ). take k (drop (c .before .before .args .at) (c .before .before .args .draws .now))) all
+    let a = c .before .before .args in
+    let all : now .i ≡ a .n = omega arith in
+    ap (λ (k : ℕ). take k (now .own)) (sym all) ∙ now .inv .2 ∙ ap (λ (k : ℕ). take k (drop (a .at) (a .draws .now))) all
 
 pub draws-at-spec : {M : Type 1} → statement M
 draws-at-spec =

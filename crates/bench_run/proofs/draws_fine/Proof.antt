@@ -2,7 +2,7 @@
 use mathlib.Core.Path.{_≡_, refl, ap, _∙_, sym}
 use Prim.Native.Nat.{_-_, _≤_}
 use native.Mathlib.Omega.{arith}
-use borrow.Author.Tests.{not-true, not-false}
+use Rattle.ground.proofs.Causes.{bad, fine}
 use lib.ListN.{length, drop, drop-of-length-le}
 use Rattle.station.specs.Benches.{drawsOk}
 use borrow.Author.Needs.{needs}
@@ -30,7 +30,8 @@ returns : tie.Need-returns Inv-loop μ-loop
 returns c =
     let now = c .before .before .before .before .loop in
     let ds = c .before .before .before .before .before .before .args .draws .now in
-    sym (sym (now .inv .1) ∙ draws-cons ds (now .i) (c .before .before .before .loop-test .taken) ∙ rw (sym (c .before .draw-ok .ensures) ∙ not-true _ (c .if1 .taken)))
+    let next = draws-cons ds (now .i) (c .before .before .before .loop-test .taken) in
+    sym (sym (now .inv .1) ∙ next ∙ rw (bad (c .before .draw-ok .ensures) (c .if1 .taken)))
 
 add-i : tie.Need-add-i Inv-loop μ-loop
 add-i c = omega arith
@@ -42,7 +43,8 @@ loop-again : tie.Need-loop-again Inv-loop μ-loop
 loop-again c =
     let now = c .before .before .before .before .loop in
     let ds = c .before .before .before .before .before .before .args .draws .now in
-    (omega arith, sym (draws-cons ds (now .i) (c .before .before .before .loop-test .taken) ∙ rw (sym (c .before .draw-ok .ensures) ∙ not-false _ (c .if1 .left))) ∙ now .inv .1)
+    let next = draws-cons ds (now .i) (c .before .before .before .loop-test .taken) in
+    (omega arith, sym (next ∙ rw (fine (c .before .draw-ok .ensures) (c .if1 .left))) ∙ now .inv .1)
 
 returns-2 : tie.Need-returns-2 Inv-loop μ-loop
 unfolding drawsOk

@@ -47,7 +47,8 @@ loop-again : tie.Need-loop-again Inv-loop μ-loop
 loop-again c =
     let now = c .before .before .loop in
     let done = c .before .before .before .args .t1 in
-    (omega arith, now .inv .1, mask-cons done (now .left) (now .mask) (c .bit-of .result) false (c .before .loop-test .taken) (omega arith) (now .inv .1) (now .inv .2) (c .bit-of .ensures .0))
+    let more = mask-cons done (now .left) (now .mask) (c .bit-of .result) false (c .before .loop-test .taken) (omega arith) (now .inv .1) in
+    (omega arith, now .inv .1, more (now .inv .2) (c .bit-of .ensures .0))
 
 returns : tie.Need-returns Inv-loop μ-loop
 returns c =

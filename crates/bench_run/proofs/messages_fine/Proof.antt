@@ -2,7 +2,7 @@
 use mathlib.Core.Path.{_≡_, ap, _∙_, sym}
 use Prim.Native.Nat.{ℕ, _-_, _*_, _/_, _≤_}
 use native.Mathlib.Omega.{arith}
-use borrow.Author.Tests.{not-true, not-false}
+use Rattle.ground.proofs.Causes.{bad, fine}
 use lib.ListN.{length, drop}
 use borrow.Author.Needs.{needs}
 use Rattle.bench_run.specs.BenchRuns.{saysMessage, allSay}
@@ -36,7 +36,9 @@ returns : tie.Need-returns Inv-loop μ-loop
 returns c =
     let now = c .before .before .before .before .loop in
     let bytes = c .before .before .before .before .before .before .args .messages .now in
-    sym (sym (now .inv .1) ∙ say-cons (length bytes / 5) (now .i) bytes (c .before .before .before .loop-test .taken) ∙ rw (ap saysMessage (sym (c .before .before .message-at .ensures)) ∙ sym (c .before .says-message .ensures) ∙ not-true _ (c .if1 .taken)))
+    let next = say-cons (length bytes / 5) (now .i) bytes (c .before .before .before .loop-test .taken) in
+    let says = c .before .says-message .ensures ∙ ap saysMessage (c .before .before .message-at .ensures) in
+    sym (sym (now .inv .1) ∙ next ∙ rw (bad says (c .if1 .taken)))
 
 add-i : tie.Need-add-i Inv-loop μ-loop
 add-i c = omega arith
@@ -48,7 +50,9 @@ loop-again : tie.Need-loop-again Inv-loop μ-loop
 loop-again c =
     let now = c .before .before .before .before .loop in
     let bytes = c .before .before .before .before .before .before .args .messages .now in
-    (omega arith, sym (say-cons (length bytes / 5) (now .i) bytes (c .before .before .before .loop-test .taken) ∙ rw (ap saysMessage (sym (c .before .before .message-at .ensures)) ∙ sym (c .before .says-message .ensures) ∙ not-false _ (c .if1 .left))) ∙ now .inv .1)
+    let next = say-cons (length bytes / 5) (now .i) bytes (c .before .before .before .loop-test .taken) in
+    let says = c .before .says-message .ensures ∙ ap saysMessage (c .before .before .message-at .ensures) in
+    (omega arith, sym (next ∙ rw (fine says (c .if1 .left))) ∙ now .inv .1)
 
 returns-2 : tie.Need-returns-2 Inv-loop μ-loop
 unfolding allSay

@@ -1,11 +1,10 @@
 -- `run` meets its contract: the tests are those of `runCauses`, in its order; the quotient and the remainder stand for a product that could wrap.
 use mathlib.Core.Path.{_≡_, sym}
-use Prim.Native.Nat.{_*_}
+use Prim.Native.Nat.{_*_, _/_, _%_, _<_}
 use native.Mathlib.Omega.{arith}
 use borrow.Author.Tests.{ne-eqb, le-leb, lt-leb}
 use lib.ListN.{length}
-use Rattle.ground.specs.Refusals.{judged, numberGiven, refusalNumber}
-use Rattle.ground.specs.declared.CountAnswer.the-variants.{Refused}
+use Rattle.ground.specs.Refusals.{judged, refusalNumber}
 use Rattle.ground.specs.declared.Refusal.the-variants as refusal
 use Rattle.ground.proofs.Causes.{ladder}
 use Rattle.bench_run.specs.BenchRuns.{Lent, lent, runCauses, runAnswer}
@@ -14,9 +13,17 @@ use borrow.Author.Needs.{needs}
 use Rattle.bench_run.proofs.run.Statement.{statement}
 use Rattle.bench_run.proofs.run.Tie as tie
 
--- what is lent
+-- what is lent, and how many draws it has by the quotient and the remainder
 abbrev lentAt : tie.Start → Lent
 lentAt c = let a = c .args in lent (a .messages .now) (a .loads .now) (a .draws .now) (a .lines .now) (a .marks .now)
+
+match : (l : Lent) → length (l .draws) / length (l .loads) ≡ length (l .lines) → length (l .draws) % length (l .loads) ≡ 0
+    → length (l .draws) ≡ length (l .loads) * length (l .lines)
+match l = draws-match (length (l .loads)) (length (l .draws)) (length (l .lines))
+
+differ : (l : Lent) → 0 < length (l .loads) → length (l .draws) ≡ length (l .loads) * length (l .lines)
+    → (length (l .draws) / length (l .loads) ≡ length (l .lines)) × (length (l .draws) % length (l .loads) ≡ 0)
+differ l = draws-differ (length (l .loads)) (length (l .draws)) (length (l .lines))
 
 messages-fine-requires : tie.Need-messages-fine-requires
 messages-fine-requires c κs = search needs
@@ -64,8 +71,8 @@ returns-6 : tie.Need-returns-6
 unfolding runAnswer
 returns-6 c =
     let l = lentAt (c .before .before .before .before .before .before .before .before .before .before .before .before .before) in
-    let differ = draws-differ (length (l .loads)) (length (l .draws)) (length (l .lines)) (omega (arith, c .before .before .before .before .before .if2 .left)) in
-    let wrong = ne-eqb (length (l .draws)) (length (l .loads) * length (l .lines)) (λ e. c .if6 .taken (differ e .0)) in
+    let some = differ l (omega (arith, c .before .before .before .before .before .if2 .left)) in
+    let wrong = ne-eqb (length (l .draws)) (length (l .loads) * length (l .lines)) (λ e. c .if6 .taken (some e .0)) in
     run-refused l refusal.Short (search ladder depth 12 fits 4000)
 
 rem-if7 : tie.Need-rem-if7
@@ -75,15 +82,15 @@ returns-7 : tie.Need-returns-7
 unfolding runAnswer
 returns-7 c =
     let l = lentAt (c .before .before .before .before .before .before .before .before .before .before .before .before .before .before) in
-    let differ = draws-differ (length (l .loads)) (length (l .draws)) (length (l .lines)) (omega (arith, c .before .before .before .before .before .before .if2 .left)) in
-    let wrong = ne-eqb (length (l .draws)) (length (l .loads) * length (l .lines)) (λ e. c .if7 .taken (differ e .1)) in
+    let some = differ l (omega (arith, c .before .before .before .before .before .before .if2 .left)) in
+    let wrong = ne-eqb (length (l .draws)) (length (l .loads) * length (l .lines)) (λ e. c .if7 .taken (some e .1)) in
     run-refused l refusal.Short (search ladder depth 12 fits 4000)
 
 returns-8 : tie.Need-returns-8
 unfolding runAnswer
 returns-8 c =
     let l = lentAt (c .before .before .before .before .before .before .before .before .before .before .before .before .before .before .before) in
-    let draws = draws-match (length (l .loads)) (length (l .draws)) (length (l .lines)) (c .before .before .if6 .left) (c .before .if7 .left) in
+    let draws = match l (c .before .before .if6 .left) (c .before .if7 .left) in
     let short = lt-leb (2 * length (l .lines)) (length (l .marks)) (omega (arith, c .if8 .taken)) in
     run-refused l refusal.Short (search ladder depth 12 fits 4000)
 
@@ -92,9 +99,10 @@ slots-from-requires c κs = search needs
 
 run-all-requires : tie.Need-run-all-requires
 run-all-requires c κs =
-    let l = lentAt (c .before .before .before .before .before .before .before .before .before .before .before .before .before .before .before .before .before .before) in
-    let whole = draws-match (length (l .loads)) (length (l .draws)) (length (l .lines)) (c .before .before .before .before .before .if6 .left) (c .before .before .before .before .if7 .left) in
-    (omega (arith, c .before .before .before .before .before .before .before .before .before .if3 .left), whole, omega (arith, c .before .before .before .if8 .left))
+    let early = c .before .before .before .before .before .before .before .before .before in
+    let l = lentAt (early .before .before .before .before .before .before .before .before .before) in
+    let whole = match l (c .before .before .before .before .before .if6 .left) (c .before .before .before .before .if7 .left) in
+    (omega (arith, early .if3 .left), whole, omega (arith, c .before .before .before .if8 .left))
 
 same-length : tie.Need-same-length
 same-length c = search needs
@@ -105,11 +113,13 @@ same-length-2 c = search needs
 returns-9 : tie.Need-returns-9
 returns-9 c =
     let early = c .before .before .before .before .before .before .before .before in
-    let l = lentAt (c .before .before .before .before .before .before .before .before .before .before .before .before .before .before .before .before .before .before .before .before .before .before .before) in
-    let draws = draws-match (length (l .loads)) (length (l .draws)) (length (l .lines)) (early .before .before .if6 .left) (early .before .if7 .left) in
+    let l = lentAt (early .before .before .before .before .before .before .before .before .before .before .before .before .before .before .before) in
+    let draws = match l (early .before .before .if6 .left) (early .before .if7 .left) in
     let marks = le-leb (2 * length (l .lines)) (length (l .marks)) (omega (arith, early .if8 .left)) in
     let none : 0 ≡ judged (runCauses l) 0 refusalNumber = search ladder depth 12 fits 4000 in
-    run-done l (c .before .before .before .before .before .before .before .slots-from .result) (c .before .before .before .before .run-all .result) _ _ (c .before .before .before .before .before .before .before .slots-from .ensures) (c .before .before .before .before .run-all .ensures) (sym none)
+    let loaded = c .before .before .before .before .before .before .before .slots-from in
+    let ran = c .before .before .before .before .run-all in
+    run-done l (loaded .result) (ran .result) _ _ (loaded .ensures) (ran .ensures) (sym none)
 
 pub run-spec : {M : Type 1} → statement M
 run-spec =

@@ -1,6 +1,6 @@
 -- `run_all` meets its contract. The loop's invariant (`Going`): after j calls lines and marks hold what those calls gave, and the stations and the
 -- count are where they lead. A turn makes one call more.
-use Prim.Native.Nat.{_-_, _*_, _≤_}
+use Prim.Native.Nat.{_-_}
 use native.Mathlib.Omega.{arith}
 use lib.ListN.{length, length-set}
 use borrow.Author.Needs.{needs}

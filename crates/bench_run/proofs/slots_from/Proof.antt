@@ -60,7 +60,8 @@ loop-again c =
     let a = c .before .before .before .before .before .before .before .before .args in
     let bytes = a .messages .now in
     let loads = a .loads .now in
-    let one : c .loaded-by .result ≡ loadedBy (messageIn (drop (5 * now .i) bytes)) (getD loads (now .i) 0) = c .loaded-by .ensures ∙ ap (λ (x : MessageRead). loadedBy x (getD loads (now .i) 0)) (c .before .before .message-at .ensures) in (
+    let one : c .loaded-by .result ≡ loadedBy (messageIn (drop (5 * now .i) bytes)) (getD loads (now .i) 0) =
+    c .loaded-by .ensures ∙ ap (λ (x : MessageRead). loadedBy x (getD loads (now .i) 0)) (c .before .before .message-at .ensures) in (
       omega arith,
       length-set (now .slots) (now .i) (c .loaded-by .result) ∙ now .inv .1,
       ap (λ (x : Station). sets (set (now .slots) (now .i) x) (now .i + 1) (benchFrom (drop (5 * (now .i + 1)) bytes) (drop (now .i + 1) loads))) one

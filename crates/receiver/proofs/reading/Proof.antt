@@ -1,5 +1,4 @@
 -- `reading` meets its contract: its two tests are those of `readingOf`, and neither reading refuses the bits that it is handed.
-use mathlib.Core.Path.{_∙_}
 use borrow.Author.Tests.{eq-eqb, ne-eqb}
 use borrow.Author.Needs.{needs}
 use Rattle.receiver.proofs.ReceiverLaws.{read-nine, read-all}
@@ -10,16 +9,17 @@ read-standard-requires : tie.Need-read-standard-requires
 read-standard-requires c κs = search needs
 
 returns : tie.Need-returns
-returns c = simp (c .read-standard .ensures .0 ∙ read-nine _, eq-eqb _ _ (c .before .if1 .taken))
+returns c = simp (c .read-standard .ensures .0, read-nine (c .before .before .args .bits), eq-eqb _ _ (c .before .if1 .taken))
 
 read-extended-requires : tie.Need-read-extended-requires
 read-extended-requires c κs = search needs
 
 returns-2 : tie.Need-returns-2
 returns-2 c =
+    let called = c .before .before .before in
     let last = c .before .if2 .taken in
-    let begun = c .before .before .before .pre last in
-    simp (c .read-extended .ensures .0 ∙ read-all _ begun, ne-eqb _ _ (c .before .before .if1 .left), eq-eqb _ _ last)
+    let whole = read-all (called .args .bits) (called .pre last) in
+    simp (c .read-extended .ensures .0, whole, ne-eqb _ _ (c .before .before .if1 .left), eq-eqb _ _ last)
 
 returns-3 : tie.Need-returns-3
 returns-3 c = simp (ne-eqb _ _ (c .before .if1 .left), ne-eqb _ _ (c .if2 .left))

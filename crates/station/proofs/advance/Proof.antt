@@ -37,14 +37,17 @@ returns-3 : tie.Need-returns-3
 unfolding turnOf
 returns-3 c =
     let a = c .before .before .before .before .before .before .before .before .args in
-    let told = sends-told _ _ (sym (c .before .before .before .before .before .before .sends .ensures .0) ∙ c .before .before .before .before .sent .given .1) in
+    let half = c .before .before .before .before .sent .given .1 in
+    let told = sends-told _ _ (sym (c .before .before .before .before .before .before .sends .ensures .0) ∙ half) in
     let wrong = fault-told (a .s) (a .heard) (told .1) (c .if3 .taken) in
     turn-promise (a .s) (a .heard) (a .draw) (search ladder depth 8)
 
 moved-requires : tie.Need-moved-requires
 moved-requires c κs =
-    let told = sends-told _ _ (sym (c .before .before .before .before .before .before .sends .ensures .0) ∙ c .before .before .before .before .sent .given .1) in
-    ((told .0, fine (c .before .before .draw-ok .ensures) (c .before .if2 .left)), (told .1, (c .if3 .left, c .before .before .before .before .before .before .before .if1 .left)))
+    let half = c .before .before .before .before .sent .given .1 in
+    let told = sends-told _ _ (sym (c .before .before .before .before .before .before .sends .ensures .0) ∙ half) in
+    let drawn = fine (c .before .before .draw-ok .ensures) (c .before .if2 .left) in
+    ((told .0, drawn), (told .1, (c .if3 .left, c .before .before .before .before .before .before .before .if1 .left)))
 
 returns-4 : tie.Need-returns-4
 unfolding turnOf

@@ -26,8 +26,8 @@ enum-known-word c = search needs
 
 -- how many bits there are, and with their start the frame's length
 counted : (c : tie.After-struct-known)
-    → (c .before .before .word .given .0 .0 .count ≤ 29)
-    × (frameLength (c .before .before .before .before .before .args .m) ≡ 4 + (c .before .before .word .given .0 .0 .count + c .before .before .word .given .0 .0 .count))
+    → let count = c .before .before .word .given .0 .0 .count in
+    (count ≤ 29) × (frameLength (c .before .before .before .before .before .args .m) ≡ 4 + (count + count))
 counted c =
     let start = c .before .before .before .before .before in
     let m = start .args .m in
@@ -62,7 +62,8 @@ returns-2 c =
     let place = start .args .place in
     let at = c .before .if1 .at in
     let long = counted (c .before .before) .1 in
-    let told = has-bits m _ (sym (c .before .before .before .before .before .before .word-of .ensures .0) ∙ c .before .before .before .before .word .given .1) .1 in
+    let word = c .before .before .before .before .word .given .1 in
+    let told = has-bits m _ (sym (c .before .before .before .before .before .before .word-of .ensures .0) ∙ word) .1 in
     let frame : c .frame-half .result ≡ getD (frameOf m) at 0 =
     c .frame-half .ensures ∙ ap (λ (w : Word). getD (1 ∷ 1 ∷ 1 ∷ 0 ∷ pairsOf (bitsOf (w .count) (w .bits))) at 0) told in
     let way : (p : ℕ) → at ≡ p → getD (frameOf m) at 0 ≡ getD (frameOf m) p 0 = λ p e. ap (λ (n : ℕ). getD (frameOf m) n 0) e in

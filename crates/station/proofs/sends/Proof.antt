@@ -43,20 +43,25 @@ burst-length-requires c κs = search needs
 
 half-at-requires : tie.Need-half-at-requires
 half-at-requires c κs =
-    let s = c .before .before .before .before .before .before .before .before .before .before .before .args .s in
-    let m = c .before .before .before .before .before .before .before .held .given .0 .0 in
-    let tests = rw (c .before .before .before .before .before .draw-ok .ensures, c .before .before .before .before .valid .ensures, c .before .before .burst-length .ensures) at (c .if2 .taken) in
+    let early = c .before .before .before .before in
+    let s = early .before .before .before .before .before .before .before .args .s in
+    let m = early .before .before .before .held .given .0 .0 in
+    let tests = rw (early .before .draw-ok .ensures, early .valid .ensures, c .before .before .burst-length .ensures) at (c .if2 .taken) in
     let first = and-eq-true-iff (drawOk (s .wait) && messageOk m) _ .0 tests .0 in
-    (and-eq-true-iff (drawOk (s .wait)) (messageOk m) .0 first .1, ltb-true (s .place) (burstLength m) (last-two (drawOk (s .wait) && messageOk m) (eqb (s .count) (s .wait)) (ltb (s .place) (burstLength m)) tests .1))
+    let last = last-two (drawOk (s .wait) && messageOk m) (eqb (s .count) (s .wait)) (ltb (s .place) (burstLength m)) tests .1 in
+    (and-eq-true-iff (drawOk (s .wait)) (messageOk m) .0 first .1, ltb-true (s .place) (burstLength m) last)
 
 returns-2 : tie.Need-returns-2
 unfolding sendOf
 returns-2 c =
-    let s = c .before .before .before .before .before .before .before .before .before .before .before .before .args .s in
-    let m = c .before .before .before .before .before .before .before .before .held .given .0 .0 in
-    let held = c .before .before .before .before .before .before .before .before .held .given .1 in
-    let busy = sym (c .before .before .before .before .before .before .before .before .before .before .before .idle .ensures) ∙ c .before .before .before .before .before .before .before .before .before .before .if1 .left in
-    let tests = rw (c .before .before .before .before .before .before .draw-ok .ensures, c .before .before .before .before .before .valid .ensures, c .before .before .before .burst-length .ensures) at (c .before .if2 .taken) in
+    let early = c .before .before .before .before .before .before .before .before in
+    let s = early .before .before .before .before .args .s in
+    let m = early .held .given .0 .0 in
+    let held = early .held .given .1 in
+    let busy = sym (early .before .before .before .idle .ensures) ∙ early .before .before .if1 .left in
+    let valid = c .before .before .before .before .before .valid .ensures in
+    let drawn = c .before .before .before .before .before .before .draw-ok .ensures in
+    let tests = rw (drawn, valid, c .before .before .before .burst-length .ensures) at (c .before .if2 .taken) in
     let level = last-two (drawOk (s .wait) && messageOk m) (eqb (s .count) (s .wait)) (ltb (s .place) (burstLength m)) tests .0 in
     let ok = holds-busy s busy m held ∙ tests in
     let half = ap send.Sends (c .half-at .ensures ∙ sym (sends-half s m held level)) in
@@ -72,10 +77,13 @@ returns-3 c =
 returns-4 : tie.Need-returns-4
 unfolding sendOf
 returns-4 c =
-    let s = c .before .before .before .before .before .before .before .before .before .before .before .args .s in
-    let busy = sym (c .before .before .before .before .before .before .before .before .before .before .idle .ensures) ∙ c .before .before .before .before .before .before .before .before .before .if1 .left in
-    let tests = rw (c .before .before .before .before .before .draw-ok .ensures, c .before .before .before .before .valid .ensures, c .before .before .burst-length .ensures) at (c .if2 .left) in
-    let bad = holds-busy s busy (c .before .before .before .before .before .before .before .held .given .0 .0) (c .before .before .before .before .before .before .before .held .given .1) ∙ tests in
+    let early = c .before .before .before .before .before .before .before in
+    let s = early .before .before .before .before .args .s in
+    let busy = sym (early .before .before .before .idle .ensures) ∙ early .before .before .if1 .left in
+    let valid = c .before .before .before .before .valid .ensures in
+    let drawn = c .before .before .before .before .before .draw-ok .ensures in
+    let tests = rw (drawn, valid, c .before .before .burst-length .ensures) at (c .if2 .left) in
+    let bad = holds-busy s busy (early .held .given .0 .0) (early .held .given .1) ∙ tests in
     send-promise s (search ladder)
 
 pub sends-spec : {M : Type 1} → statement M

@@ -15,7 +15,8 @@ enum-told-2 : tie.Need-enum-told-2
 enum-told-2 c = search needs
 
 returns : tie.Need-returns
-returns c = sym (sends-told (c .before .before .before .args .s) (c .enum-told .given .0 .0) (sym (c .before .before .sends .ensures .0) ∙ c .enum-told .given .1) .0)
+returns c =
+    sym (sends-told (c .before .before .before .args .s) _ (sym (c .before .before .sends .ensures .0) ∙ c .enum-told .given .1) .0)
 
 returns-2 : tie.Need-returns-2
 returns-2 c =

@@ -1,8 +1,8 @@
 -- `put_column` is safe: the loop goes over the sixteen slots.
 use Prim.Native.Nat.{_≤_, _-_}
 use borrow.Author.Needs.{needs}
-use Rattle.bench_runs.proofs.put_column.Statement.{statement}
-use Rattle.bench_runs.proofs.put_column.Tie as tie
+use Rattle.timelines.proofs.put_column.Statement.{statement}
+use Rattle.timelines.proofs.put_column.Tie as tie
 
 abbrev Inv-loop : tie.InvT-loop
 Inv-loop page₀ drawing column n before after done k₀ page k = (k ≤ 16)

@@ -1,8 +1,8 @@
 -- `run` is safe and ends: it makes at most 2144 calls.
 use Prim.Native.Nat.{_≤_, _-_}
 use borrow.Author.Needs.{needs}
-use Rattle.bench_runs.proofs.run.Statement.{statement}
-use Rattle.bench_runs.proofs.run.Tie as tie
+use Rattle.timelines.proofs.run.Statement.{statement}
+use Rattle.timelines.proofs.run.Tie as tie
 
 abbrev Inv-loop : tie.InvT-loop
 Inv-loop page₀ at n fixed slots₀ next₀ drawing₀ t₀ page slots next drawing t = (t ≤ 2144)

@@ -2,8 +2,8 @@
 use mathlib.Core.Path.{sym}
 use lib.Seq.{length-take-le}
 use borrow.Author.Needs.{needs}
-use Rattle.bench_runs.proofs.write_front.Statement.{statement}
-use Rattle.bench_runs.proofs.write_front.Tie as tie
+use Rattle.timelines.proofs.write_front.Statement.{statement}
+use Rattle.timelines.proofs.write_front.Tie as tie
 
 slice-aggregate-write-all : tie.Need-slice-aggregate-write-all
 slice-aggregate-write-all c =

@@ -25,7 +25,8 @@ shorter k rest whole one most big below e =
     let below′ : rest < 10 ^ suc (20 - k) = subst (λ (n : ℕ). rest < 10 ^ n) m below in
     let less : k ≡ 20 → ⊥ = λ z. omega (arith, subst (λ (n : ℕ). rest < 10 ^ (21 - n)) z below) in
     let fewer : rest / 10 < 10 ^ (20 - k) = omega arith in
-    let one-less : length (digitsUpTo (21 - k) rest) ≡ suc (length (digitsUpTo (20 - k) (rest / 10))) = ap (λ (n : ℕ). length (digitsUpTo n rest)) m ∙ length-more (20 - k) rest big in
+    let one-less : length (digitsUpTo (21 - k) rest) ≡ suc (length (digitsUpTo (20 - k) (rest / 10))) =
+    ap (λ (n : ℕ). length (digitsUpTo n rest)) m ∙ length-more (20 - k) rest big in
     rw m′ (omega arith, omega arith, fewer, omega arith)
 
 -- at the end one digit is left

@@ -14,7 +14,9 @@ put-fields-requires : tie.Need-put-fields-requires
 put-fields-requires c κs = omega (arith, digits-at-most 20 (c .before .before .before .args .number))
 
 put-byte-requires : tie.Need-put-byte-requires
-put-byte-requires c κs = omega (arith, digits-at-most 20 (c .before .before .before .before .before .args .number), fields-at-most (c .before .before .before .before .before .args .line))
+put-byte-requires c κs =
+    let given = c .before .before .before .before .before .args in
+    omega (arith, digits-at-most 20 (given .number), fields-at-most (given .line))
 
 returns : tie.Need-returns
 unfolding lineText

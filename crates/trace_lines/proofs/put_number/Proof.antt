@@ -62,7 +62,8 @@ loop-again : tie.Need-loop-again Inv-loop μ-loop
 loop-again c =
     let l = c .before .loop in
     let e : suc (l .i - 1) ≡ l .i = omega arith in
-    (omega arith, one (l .out) (c .before .before .before .args .at) (l .i - 1) (l .rest) ∙ ap (λ (n : ℕ). sets (l .out) (c .before .before .before .args .at) (lastDigits n (l .rest))) e ∙ l .inv .1)
+    let at = c .before .before .before .args .at in
+    (omega arith, one (l .out) at (l .i - 1) (l .rest) ∙ ap (λ (n : ℕ). sets (l .out) at (lastDigits n (l .rest))) e ∙ l .inv .1)
 
 add-result : tie.Need-add-result Inv-loop μ-loop
 add-result c = omega (arith, few _ _ (c .before .before .places .ensures))

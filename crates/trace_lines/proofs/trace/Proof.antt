@@ -48,16 +48,23 @@ add-i c = omega (arith, c .before .before .before .before .before .before .befor
 
 -- one turn
 abbrev turned : (c : tie.After-next Inv-loop μ-loop)
-    → Going (c .before .before .before .before .before .before .before .before .before .args .input .now) (c .before .before .before .before .before .before .before .before .before .args .out .now) (c .before .before .before .before .before .before .before .before .before .args .p) (c .before .print-byte .last .1 .1 .0) (c .before .print-byte .result .progress) (c .before .print-byte .result .at) (c .before .before .before .before .before .before .loop .i + 1)
+    → let given = c .before .before .before .before .before .before .before .before .before .args in
+    let put = c .before .print-byte in
+    Going (given .input .now) (given .out .now) (given .p) (put .last .1 .1 .0) (put .result .progress) (put .result .at)
+    (c .before .before .before .before .before .before .loop .i + 1)
 turned c =
-    let l = c .before .before .before .before .before .before .loop in
-    going-on (l .inv .0) (c .before .before .before .before .before .loop-test .taken) (l .inv .1) (c .before .before .before .before .if2 .left) (c .before .print-byte .ensures .0) (c .before .print-byte .ensures .1)
+    let room = c .before .before .before .before in
+    let l = room .before .before .loop in
+    let put = c .before .print-byte in
+    going-on (l .inv .0) (room .before .loop-test .taken) (l .inv .1) (room .if2 .left) (put .ensures .0) (put .ensures .1)
 
 ended-requires-3 : tie.Need-ended-requires-3 Inv-loop μ-loop
 ended-requires-3 c κs = tt
 
 returns-3 : tie.Need-returns-3 Inv-loop μ-loop
-returns-3 c = going-ends (turned (c .before .before)) (c .ended3 .ensures) (taken-stopped (c .before .before .before .print-byte .result .progress) _ _ (c .before .if3 .taken))
+returns-3 c =
+    going-ends (turned (c .before .before)) (c .ended3 .ensures)
+    (taken-stopped (c .before .before .before .print-byte .result .progress) _ _ (c .before .if3 .taken))
 
 loop-less : tie.Need-loop-less Inv-loop μ-loop
 loop-less c = omega arith

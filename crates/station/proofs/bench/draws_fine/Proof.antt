@@ -31,7 +31,8 @@ returns : tie.Need-returns Inv-loop μ-loop
 returns c =
     let a = c .before .before .before .before .args in
     let i = c .before .before .before .loop .d in
-    sym (sym (c .before .before .before .loop .inv .1) ∙ draws-more (a .n) (a .t1) i (c .before .before .before .before .pre) (c .before .before .loop-test .taken) ∙ rw (bad (c .before .draw-ok .ensures) (c .if1 .taken)))
+    let next = draws-more (a .n) (a .t1) i (c .before .before .before .before .pre) (c .before .before .loop-test .taken) in
+    sym (sym (c .before .before .before .loop .inv .1) ∙ next ∙ rw (bad (c .before .draw-ok .ensures) (c .if1 .taken)))
 
 add-d : tie.Need-add-d Inv-loop μ-loop
 add-d c = omega arith
@@ -43,8 +44,9 @@ loop-again : tie.Need-loop-again Inv-loop μ-loop
 loop-again c =
     let a = c .before .before .before .before .args in
     let i = c .before .before .before .loop .d in
-    rw (add-one i)
-    (c .before .before .loop-test .taken, sym (draws-more (a .n) (a .t1) i (c .before .before .before .before .pre) (c .before .before .loop-test .taken) ∙ rw (fine (c .before .draw-ok .ensures) (c .if1 .left))) ∙ c .before .before .before .loop .inv .1)
+    let next = draws-more (a .n) (a .t1) i (c .before .before .before .before .pre) (c .before .before .loop-test .taken) in
+    let ok = fine (c .before .draw-ok .ensures) (c .if1 .left) in
+    rw (add-one i) (c .before .before .loop-test .taken, sym (next ∙ rw ok) ∙ c .before .before .before .loop .inv .1)
 
 returns-2 : tie.Need-returns-2 Inv-loop μ-loop
 unfolding drawsOk

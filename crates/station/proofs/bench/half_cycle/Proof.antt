@@ -34,7 +34,9 @@ few : (c : tie.Else1 Inv-loop μ-loop) → c .before .args .n ≤ 16
 few c = let n = c .before .args .n in leb-true n 16 (and-eq-true-iff (leb 1 n) (leb n 16) .0 (counted c) .1)
 
 -- after the loop all n have been heard
-heard : (c : tie.After-loop Inv-loop μ-loop) → Heard (c .before .before .before .args .n) (c .before .before .before .args .t1) (c .before .loop .line) (c .before .loop .sent) (c .before .before .before .args .n)
+heard : (c : tie.After-loop Inv-loop μ-loop)
+    → let a = c .before .before .before .args in
+    Heard (a .n) (a .t1) (c .before .loop .line) (c .before .loop .sent) (a .n)
 heard c =
     let a = c .before .before .before .args in
     let end : c .before .loop .k ≡ a .n = omega (arith, c .before .loop .inv .within) in
@@ -85,7 +87,8 @@ returns-2 c =
     let early = c .before .before .before .before .before .before .before .before in
     let count = counted (early .before .before) in
     let s = getD (early .before .before .before .args .t1) (early .before .loop .k) zeros in
-    let wrong = heard-bad (omega (arith, few (early .before .before))) (early .loop-test .taken) zeros (early .before .loop .inv) (refused-told s _ (sym (c .before .before .before .sends .ensures .0) ∙ c .before .enum-told .given .1)) in
+    let bad = refused-told s _ (sym (c .before .before .before .sends .ensures .0) ∙ c .before .enum-told .given .1) in
+    let wrong = heard-bad (omega (arith, few (early .before .before))) (early .loop-test .taken) zeros (early .before .loop .inv) bad in
     let a = early .before .before .before .args in
     bench-promise (a .n) (a .t1) (a .draws) (search ladder)
 
@@ -138,10 +141,10 @@ returns-3 c =
 
 move-all-requires : tie.Need-move-all-requires Inv-loop μ-loop
 move-all-requires c κs =
-    let a = c .before .before .before .before .before .args in
-    let l = c .before .before .before .loop in
+    let most = few (c .before .before .before .before) in
     let all = heard (c .before .before) in
-    (omega (arith, few (c .before .before .before .before)), (omega (arith, few (c .before .before .before .before)), (heard-fine all, (fine (c .before .draws-fine .ensures) (c .if3 .left), (heard-line all, all .kept)))))
+    let drawn = fine (c .before .draws-fine .ensures) (c .if3 .left) in
+    (omega (arith, most), (omega (arith, most), (heard-fine all, (drawn, (heard-line all, all .kept)))))
 
 returns-4 : tie.Need-returns-4 Inv-loop μ-loop
 unfolding benchOf

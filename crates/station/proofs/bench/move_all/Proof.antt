@@ -2,7 +2,7 @@
 -- where they are DONE, and those to come are as they were. A judged station that is empty stays; any other has the numbers of its move.
 use borrow.Author.Needs.{needs}
 use mathlib.Core.Path.{_≡_, sym, ap, subst, _∙_}
-use mathlib.Core.Bool.{true, false}
+use mathlib.Core.Bool.{Bool, true, false}
 use mathlib.Core.Logic.{⊎-elim}
 use Prim.Native.Nat.{ℕ, _-_}
 use native.Mathlib.Omega.{arith}
@@ -50,14 +50,18 @@ array-read-moves-2 : tie.Need-array-read-moves-2 Inv-loop μ-loop
 array-read-moves-2 c = search needs
 
 -- the next station may be moved
-ready : (c : tie.In-loop Inv-loop μ-loop) → Ready (getD (c .before .loop .after) (c .before .loop .i) zeros) (getD (c .before .before .args .t5) (c .before .loop .i) 0) (c .before .before .args .line) (getD (c .before .before .args .t3) (c .before .loop .i) 0)
+ready : (c : tie.In-loop Inv-loop μ-loop)
+    → let a = c .before .before .args in
+    let i = c .before .loop .i in
+    Ready (getD (c .before .loop .after) i zeros) (getD (a .t5) i 0) (a .line) (getD (a .t3) i 0)
 ready c =
     let a = c .before .before .args in
     let p = c .before .before .pre in
     let i = c .before .loop .i in
     subst (λ (s : Station). Ready s (getD (a .t5) i 0) (a .line) (getD (a .t3) i 0))
     (sym (as-it-was (p .0) (p .1 .0) (c .loop-test .taken) zeros (c .before .loop .inv)))
-    (ready-at (a .n) (a .slots) (a .t3) (a .t5) (a .line) (p .0) (p .1 .0) (p .1 .1 .0) (p .1 .1 .1 .0) (p .1 .1 .1 .1 .0) (p .1 .1 .1 .1 .1) i (c .loop-test .taken) zeros)
+    (ready-at (a .n) (a .slots) (a .t3) (a .t5) (a .line) (p .0) (p .1 .0) (p .1 .1 .0) (p .1 .1 .1 .0) (p .1 .1 .1 .1 .0) (p .1 .1 .1 .1 .1) i
+    (c .loop-test .taken) zeros)
 
 moves-requires : tie.Need-moves-requires Inv-loop μ-loop
 moves-requires c κs =
@@ -102,27 +106,31 @@ loop-less c = search needs
 
 loop-again : tie.Need-loop-again Inv-loop μ-loop
 loop-again c =
-    let a = c .before .before .before .before .args in
     let p = c .before .before .before .before .pre in
     let l = c .before .before .before .loop in
     let r = ready (c .before .before) in
+    let h = c .before .before .loop-test .taken in
+    let next : Turn → Station = λ t. t .next in
+    let says : Turn → Bool = λ t. isDone (t .answer) in
     rw (add-one (l .i))
     (⊎-elim
     (λ w.
     let turn = turn-empty r (w .1 .given .1) in
-    rw (w .2, w .3) (moving-same (p .0) (p .1 .0) (c .before .before .loop-test .taken) zeros (l .inv) (ap (λ (t : Turn). t .next) turn) (ap (λ (t : Turn). isDone (t .answer)) turn)))
+    rw (w .2, w .3) (moving-same (p .0) (p .1 .0) h zeros (l .inv) (ap next turn) (ap says turn)))
     (λ v.
     ⊎-elim
     (λ w.
     let turn = by-done _ (w .3 .result) (w .3 .ensures) (w .4 .taken) in
-    rw (w .6, w .7) (moving-more (p .0) (p .1 .0) (c .before .before .loop-test .taken) zeros (l .inv) (w .5 .result) true (ap (λ (t : Turn). t .next) turn ∙ sym (w .5 .ensures)) (ap (λ (t : Turn). isDone (t .answer)) turn)))
+    rw (w .6, w .7)
+    (moving-more (p .0) (p .1 .0) h zeros (l .inv) (w .5 .result) true (ap next turn ∙ sym (w .5 .ensures)) (ap says turn)))
     (λ w.
     let turn = by-going _ (w .3 .result) (w .3 .ensures) (w .4 .left) in
     let v = w .3 .result in
     let numbers : Held → Station = λ h. record { held = h; wait = v .wait; count = v .count; place = v .place } in
     let kept = ap numbers (sym (w .1 .given .1)) in
-    let stored = three-numbers (l .after) (l .i) zeros (v .wait) (v .count) (v .place) (omega (arith, l .inv .long, p .0, c .before .before .loop-test .taken)) in
-    rw (w .8 ∙ stored, w .9) (moving-on (p .0) (p .1 .0) (c .before .before .loop-test .taken) zeros (l .inv) (numbers (getD (l .after) (l .i) zeros .held)) (ap (λ (t : Turn). t .next) turn ∙ kept) (ap (λ (t : Turn). isDone (t .answer)) turn)))
+    let stored = three-numbers (l .after) (l .i) zeros (v .wait) (v .count) (v .place) (omega (arith, l .inv .long, p .0, h)) in
+    rw (w .8 ∙ stored, w .9)
+    (moving-on (p .0) (p .1 .0) h zeros (l .inv) (numbers (getD (l .after) (l .i) zeros .held)) (ap next turn ∙ kept) (ap says turn)))
     v)
     (c .match .came))
 

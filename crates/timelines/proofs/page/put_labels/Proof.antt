@@ -1,8 +1,8 @@
 -- `page::put_labels` is safe: the loop goes over the sixteen slots.
 use Prim.Native.Nat.{_≤_, _-_}
 use borrow.Author.Needs.{needs}
-use Rattle.bench_runs.proofs.page.put_labels.Statement.{statement}
-use Rattle.bench_runs.proofs.page.put_labels.Tie as tie
+use Rattle.timelines.proofs.page.put_labels.Statement.{statement}
+use Rattle.timelines.proofs.page.put_labels.Tie as tie
 
 abbrev Inv-loop : tie.InvT-loop
 Inv-loop page₀ drawing n k₀ page k = (k ≤ 16)

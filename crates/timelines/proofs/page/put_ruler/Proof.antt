@@ -1,8 +1,8 @@
 -- `page::put_ruler` is safe: the loop goes over the hundred columns.
 use Prim.Native.Nat.{_≤_, _-_}
 use borrow.Author.Needs.{needs}
-use Rattle.bench_runs.proofs.page.put_ruler.Statement.{statement}
-use Rattle.bench_runs.proofs.page.put_ruler.Tie as tie
+use Rattle.timelines.proofs.page.put_ruler.Statement.{statement}
+use Rattle.timelines.proofs.page.put_ruler.Tie as tie
 
 abbrev Inv-loop : tie.InvT-loop
 Inv-loop page₀ drawing k₀ page k = (k ≤ 100)

@@ -2,8 +2,8 @@
 use Prim.Native.Nat.{_≤_, _-_}
 use lib.ListN.{length}
 use borrow.Author.Needs.{needs}
-use Rattle.bench_runs.proofs.page.put_text.Statement.{statement}
-use Rattle.bench_runs.proofs.page.put_text.Tie as tie
+use Rattle.timelines.proofs.page.put_text.Statement.{statement}
+use Rattle.timelines.proofs.page.put_text.Tie as tie
 
 abbrev Inv-loop : tie.InvT-loop
 Inv-loop page₀ at text to₀ i₀ page to i = (i ≤ length text)

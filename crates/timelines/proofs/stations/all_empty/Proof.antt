@@ -1,8 +1,8 @@
 -- `stations::all_empty` is safe: the loop goes over the sixteen slots.
 use Prim.Native.Nat.{_≤_, _-_}
 use borrow.Author.Needs.{needs}
-use Rattle.bench_runs.proofs.stations.all_empty.Statement.{statement}
-use Rattle.bench_runs.proofs.stations.all_empty.Tie as tie
+use Rattle.timelines.proofs.stations.all_empty.Statement.{statement}
+use Rattle.timelines.proofs.stations.all_empty.Tie as tie
 
 abbrev Inv-loop : tie.InvT-loop
 Inv-loop slots k₀ k = (k ≤ 16)

@@ -1,8 +1,8 @@
 -- `stations::draws_at` is safe: the loop goes over the sixteen draws, and a place in the list is below 31.
 use Prim.Native.Nat.{_≤_, _-_}
 use borrow.Author.Needs.{needs}
-use Rattle.bench_runs.proofs.stations.draws_at.Statement.{statement}
-use Rattle.bench_runs.proofs.stations.draws_at.Tie as tie
+use Rattle.timelines.proofs.stations.draws_at.Statement.{statement}
+use Rattle.timelines.proofs.stations.draws_at.Tie as tie
 
 abbrev Inv-loop : tie.InvT-loop
 Inv-loop call fixed draws₀ from k₀ draws k = (k ≤ 16)

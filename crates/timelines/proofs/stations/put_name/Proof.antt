@@ -1,8 +1,8 @@
 -- `stations::put_name` is safe: the loop goes over the sixteen bytes of a name.
 use Prim.Native.Nat.{_≤_, _-_}
 use borrow.Author.Needs.{needs}
-use Rattle.bench_runs.proofs.stations.put_name.Statement.{statement}
-use Rattle.bench_runs.proofs.stations.put_name.Tie as tie
+use Rattle.timelines.proofs.stations.put_name.Statement.{statement}
+use Rattle.timelines.proofs.stations.put_name.Tie as tie
 
 abbrev Inv-loop : tie.InvT-loop
 Inv-loop page₀ at name to₀ i₀ page to i = (i ≤ 16)
@@ -10,11 +10,8 @@ Inv-loop page₀ at name to₀ i₀ page to i = (i ≤ 16)
 abbrev μ-loop : tie.MeasureT-loop
 μ-loop page₀ at name to₀ i₀ page to i = 16 - i
 
-function-code-requires : tie.Need-function-code-requires Inv-loop μ-loop
-function-code-requires c κs = search needs
-
-name-at-requires : tie.Need-name-at-requires Inv-loop μ-loop
-name-at-requires c κs = search needs
+name-of-requires : tie.Need-name-of-requires Inv-loop μ-loop
+name-of-requires c κs = search needs
 
 loop-holds : tie.Need-loop-holds Inv-loop μ-loop
 loop-holds c = search needs
@@ -22,8 +19,8 @@ loop-holds c = search needs
 array-read-if1 : tie.Need-array-read-if1 Inv-loop μ-loop
 array-read-if1 c = search needs
 
-array-read-t16 : tie.Need-array-read-t16 Inv-loop μ-loop
-array-read-t16 c = search needs
+array-read-t15 : tie.Need-array-read-t15 Inv-loop μ-loop
+array-read-t15 c = search needs
 
 slice-aggregate-put-text : tie.Need-slice-aggregate-put-text Inv-loop μ-loop
 slice-aggregate-put-text c = search needs
@@ -49,11 +46,10 @@ put-name-spec =
     (tie.spec
     Inv-loop
     μ-loop
-    function-code-requires
-    name-at-requires
+    name-of-requires
     loop-holds
     array-read-if1
-    array-read-t16
+    array-read-t15
     slice-aggregate-put-text
     put-text-requires
     add-i

@@ -1,8 +1,8 @@
 -- `stations::put_stations` is safe: the loop goes over the sixteen slots.
 use Prim.Native.Nat.{_≤_, _-_}
 use borrow.Author.Needs.{needs}
-use Rattle.bench_runs.proofs.stations.put_stations.Statement.{statement}
-use Rattle.bench_runs.proofs.stations.put_stations.Tie as tie
+use Rattle.timelines.proofs.stations.put_stations.Statement.{statement}
+use Rattle.timelines.proofs.stations.put_stations.Tie as tie
 
 abbrev Inv-loop : tie.InvT-loop
 Inv-loop page₀ at slots to₀ k₀ page to k = (k ≤ 16)

@@ -1,8 +1,8 @@
 -- `stations::sixteen` is safe: the loop goes over the sixteen slots.
 use Prim.Native.Nat.{_≤_, _-_}
 use borrow.Author.Needs.{needs}
-use Rattle.bench_runs.proofs.stations.sixteen.Statement.{statement}
-use Rattle.bench_runs.proofs.stations.sixteen.Tie as tie
+use Rattle.timelines.proofs.stations.sixteen.Statement.{statement}
+use Rattle.timelines.proofs.stations.sixteen.Tie as tie
 
 abbrev Inv-loop : tie.InvT-loop
 Inv-loop draws slots₀ k₀ slots k = (k ≤ 16)

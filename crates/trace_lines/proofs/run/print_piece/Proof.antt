@@ -63,7 +63,10 @@ trace-requires c κs = tt
 write-requires : tie.Need-write-requires Inv-loop μ-loop
 write-requires c κs = tt
 
-abbrev turned : (c : tie.After-struct-known Inv-loop μ-loop) → Turn (c .before .before .before .before .before .before .before .before .before .before .before .before .args .input .now) (c .before .before .before .before .before .before .before .before .before .before .loop .q) (c .before .before .before .before .before .before .before .before .before .before .loop .from) (c .before .before .before .before .before .trace .result)
+abbrev turned : (c : tie.After-struct-known Inv-loop μ-loop)
+    → let t = c .before .before .before .before .before in
+    let l = t .before .before .before .before .before in
+    Turn (l .before .before .args .input .now) (l .loop .q) (l .loop .from) (t .trace .result)
 turned c =
     let t = c .before .before .before .before .before in
     turn _ _ _ _ (t .before .before .before .before .loop-test .taken) (t .before .before .before .if1 .left) (t .trace .ensures .0)

@@ -29,7 +29,9 @@ read-piece-requires : tie.Need-read-piece-requires Inv-loop μ-loop
 read-piece-requires c κs = tt
 
 returns : tie.Need-returns Inv-loop μ-loop
-returns c = follows-then (c .before .before .before .before .before .before .before .before .loop .inv .1) (c .before .before .before .before .read-piece .ensures)
+returns c =
+    let piece = c .before .before .before .before in
+    follows-then (piece .before .before .before .before .loop .inv .1) (piece .read-piece .ensures)
 
 sub-turns : tie.Need-sub-turns Inv-loop μ-loop
 sub-turns c = omega arith

@@ -1,0 +1,76 @@
+-- `changed_from` meets its contract: after i turns the count is that of the first i records.
+use mathlib.Core.Path.{_≡_, refl, ap, _∙_}
+use mathlib.Core.List.{List}
+use Prim.Native.Nat.{ℕ, _-_, _≤_}
+use native.Mathlib.Omega.{arith}
+use borrow.Author.Needs.{needs}
+use Rattle.record.specs.Layout.{RECORDS}
+use Rattle.record.specs.ModuleTable.{changed}
+use Rattle.room.proofs.MainsLaws.{LevelsOf, changed-next}
+use Rattle.room.proofs.mains.changed_from.Statement.{statement}
+use Rattle.room.proofs.mains.changed_from.Tie as tie
+
+abbrev Inv-loop : tie.InvT-loop
+Inv-loop t levels count₀ i₀ count i = (i ≤ RECORDS) × (count ≤ i) × ((before : List ℕ) → LevelsOf RECORDS before levels → count ≡ changed i before t)
+
+abbrev μ-loop : tie.MeasureT-loop
+μ-loop t levels count₀ i₀ count i = RECORDS - i
+
+loop-holds : tie.Need-loop-holds Inv-loop μ-loop
+unfolding changed
+loop-holds c = (omega arith, omega arith, λ before kept. refl)
+
+array-read-differs : tie.Need-array-read-differs Inv-loop μ-loop
+array-read-differs c = search needs
+
+mul-differs : tie.Need-mul-differs Inv-loop μ-loop
+mul-differs c = omega arith
+
+add-differs : tie.Need-add-differs Inv-loop μ-loop
+add-differs c = omega arith
+
+shared-slice-read-differs : tie.Need-shared-slice-read-differs Inv-loop μ-loop
+shared-slice-read-differs c = omega (arith, c .before .before .before .before .pre)
+
+differs-requires : tie.Need-differs-requires Inv-loop μ-loop
+differs-requires c κs = search needs
+
+add-count : tie.Need-add-count Inv-loop μ-loop
+add-count c = omega (arith, c .differs .ensures .1, c .before .before .before .loop .inv .1)
+
+add-i : tie.Need-add-i Inv-loop μ-loop
+add-i c = omega arith
+
+loop-less : tie.Need-loop-less Inv-loop μ-loop
+loop-less c = omega arith
+
+loop-again : tie.Need-loop-again Inv-loop μ-loop
+loop-again c =
+    let now = c .before .before .before .loop in
+    let more = c .differs .ensures in
+    let start = c .before .before .before .before .before in (
+      omega arith,
+      omega (arith, more .1, now .inv .1),
+      λ before kept. changed-next before (start .args .t .now) (start .args .t1) _ _ _ kept (c .before .before .loop-test .taken) (now .inv .2 before kept) (more .0),
+    )
+
+returns : tie.Need-returns Inv-loop μ-loop
+returns c = λ before kept. let all : c .before .loop .i ≡ RECORDS = omega arith in c .before .loop .inv .2 before kept ∙ ap (λ (n : ℕ). changed n before (c .before .before .before .args .t .now)) all
+
+pub changed-from-spec : {M : Type 1} → statement M
+changed-from-spec =
+    tie.close
+    (tie.spec
+    Inv-loop
+    μ-loop
+    loop-holds
+    array-read-differs
+    mul-differs
+    add-differs
+    shared-slice-read-differs
+    differs-requires
+    add-count
+    add-i
+    loop-less
+    loop-again
+    returns)

@@ -1,0 +1,15 @@
+-- `differs` meets its contract: its test is that of the definition.
+use mathlib.Core.Path.{refl}
+use native.Mathlib.Omega.{arith}
+use borrow.Author.Tests.{eq-eqb, ne-eqb}
+use Rattle.room.proofs.mains.differs.Statement.{statement}
+use Rattle.room.proofs.mains.differs.Tie as tie
+
+returns : tie.Need-returns
+returns c = (rw (eq-eqb _ _ (c .if1 .taken)), omega arith)
+
+returns-2 : tie.Need-returns-2
+returns-2 c = (rw (ne-eqb _ _ (c .if1 .left)), omega arith)
+
+pub differs-spec : {M : Type 1} → statement M
+differs-spec = tie.close (tie.spec returns returns-2)
