@@ -1,4 +1,5 @@
 pub mod TableLaws
+pub mod StillLaws
 pub mod HouseLaws
 pub mod ApplyLaws
 pub mod Levels

@@ -3,7 +3,8 @@
 --     getD-sets-before, getD-sets-after, getD-sets-in   an element of a list after a run of stores
 --     length-put, byte-put-own, byte-put-apart          the length and the bytes after a record is put
 --     record-ext                                        records whose bytes agree are equal
---     record-put-own, record-put-other                  the records after a record is put
+--     record-put-own, record-put-other, put-same        the records after a record is put; one put where it lies
+--     byte-of-record                                    a byte of a table as a byte of its record
 --     length-put-house, record-put-house, house-put-own, house-put-other, house-put       records and houses' own bytes do not meet
 --     changed-ext, changed-none                         the count looks at levels only; it is 0 where nothing changed
 --     changed-put                                       putting a record that was not changed before adds 0 or 1
@@ -14,7 +15,7 @@ use mathlib.Core.Path.{_≡_, refl, sym, ap, ap₂, subst, _∙_}
 use mathlib.Core.Bool.{true, false}
 use mathlib.Core.List.{List, [], _∷_}
 use mathlib.Core.Logic.{_⊎_, inl, inr, ⊎-elim}
-use Prim.Native.Nat.{ℕ, zero, suc, _+_, _*_, _≤_, _<_}
+use Prim.Native.Nat.{ℕ, zero, suc, _+_, _-_, _*_, _≤_, _<_}
 use native.Mathlib.Nat.{add-zero, zero-add, add-suc, suc-add, le-of-suc-le-suc, not-suc-le-zero}
 use native.Mathlib.Numerals.{add-one}
 use native.Mathlib.Omega.{arith}
@@ -22,7 +23,7 @@ use native.Mathlib.Decide.{decLt}
 use borrow.Author.Tests.{eq-eqb}
 use lib.Dec.{eqb}
 use lib.ListN.{length, getD, set, length-set}
-use lib.Seq.{sets, length-sets, getD-set-same, getD-set-other}
+use lib.Seq.{sets, length-sets, getD-set-same, getD-set-other, ext-getD}
 use Rattle.ground.specs.Choice.{pick}
 use Rattle.plan.specs.declared.Act.{Act}
 use Rattle.record.specs.Layout.{RECORD-BYTES, UNITS, HOUSES, RECORDS, HEARD-AT, TABLE-BYTES, recordAt, bytesOf, put, houseAt, putHouse}
@@ -99,6 +100,36 @@ unfolding recordAt
 record-put-own t i r h =
     record-ext (put t i r) (bytesOf r) i 0
     (λ k hk. byte-put-own t i k r h hk ∙ ap (λ (n : ℕ). getD (bytesOf r) n 0) (sym (zero-add k)))
+
+pub byte-of-record : (t : List ℕ) (i k : ℕ) → k < RECORD-BYTES → getD t (i * RECORD-BYTES + k) 0 ≡ getD (bytesOf (recordAt t i)) k 0
+unfolding recordAt
+byte-of-record t i zero h = ap (λ (j : ℕ). getD t j 0) (add-zero (i * RECORD-BYTES))
+byte-of-record t i (suc zero) h = refl
+byte-of-record t i (suc (suc zero)) h = refl
+byte-of-record t i (suc (suc (suc zero))) h = refl
+byte-of-record t i (suc (suc (suc (suc zero)))) h = refl
+byte-of-record t i (suc (suc (suc (suc (suc zero))))) h = refl
+byte-of-record t i (suc (suc (suc (suc (suc (suc zero)))))) h = refl
+byte-of-record t i (suc (suc (suc (suc (suc (suc (suc zero))))))) h = refl
+byte-of-record t i (suc (suc (suc (suc (suc (suc (suc (suc k)))))))) h = absurd (omega arith)
+
+-- a record put where it lies
+pub put-same : (t : List ℕ) (i : ℕ) → i * RECORD-BYTES + RECORD-BYTES ≤ length t → put t i (recordAt t i) ≡ t
+put-same t i h =
+    ext-getD 0 (put t i (recordAt t i)) t (length-put t i (recordAt t i))
+    (λ j low. go j (decLt j (i * RECORD-BYTES)) (decLt j (i * RECORD-BYTES + RECORD-BYTES)))
+  where
+    r : Record
+    r = recordAt t i
+
+    go : (j : ℕ) → Dec (j < i * RECORD-BYTES) → Dec (j < i * RECORD-BYTES + RECORD-BYTES) → getD (put t i r) j 0 ≡ getD t j 0
+    go j (yes before) q = byte-put-apart t i j r 0 (inl before)
+    go j (no from) (no behind) = byte-put-apart t i j r 0 (inr (omega arith))
+    go j (no from) (yes within) =
+        let k = j - i * RECORD-BYTES in
+        let place : i * RECORD-BYTES + k ≡ j = omega arith in
+        subst (λ (x : ℕ). getD (put t i r) x 0 ≡ getD t x 0) place
+        (byte-put-own t i k r h (omega arith) ∙ sym (byte-of-record t i k (omega arith)))
 
 -- the bytes of one record lie apart from another record
 apart : (i j k : ℕ) → (i ≡ j → ⊥) → k < RECORD-BYTES → Apart i (j * RECORD-BYTES + k)

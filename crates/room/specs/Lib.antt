@@ -2,4 +2,5 @@ pub mod Rooms
 pub mod Routes
 pub mod Mains
 pub mod Lent
+pub mod Reaches
 pub mod Statements

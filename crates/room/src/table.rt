@@ -1,5 +1,6 @@
 // The lent bytes of a module table: whether they keep its rules, and an act run on the records of a house. What stands here takes a
 // table of the right length for granted.
+use message::Function;
 use plan::Act;
 use record::HEARD_AT;
 use record::HOUSES;
@@ -13,11 +14,14 @@ use record::house_valid;
 use record::step::house_after;
 use record::step::step;
 ghost use mathlib.Core.Path.{_≡_};
-ghost use Prim.Native.Nat.{_<_};
+ghost use mathlib.Core.Bool.{false};
+ghost use Prim.Native.Nat.{ℕ, _<_};
 ghost use lib.ListN.{length};
+ghost use Rattle.record.specs.declared.Record.{Record};
 ghost use Rattle.record.specs.Layout.{RECORDS, HOUSES, UNITS, TABLE-BYTES, recordAt, put, houseAt, putHouse};
-ghost use Rattle.record.specs.ModuleTable.{recordOk, houseOk, recordsOk, housesOk, tableOk, stepHouse, runAct, changed};
+ghost use Rattle.record.specs.ModuleTable.{recordOk, houseOk, recordsOk, housesOk, tableOk, obeyed, stepHouse, runAct, changed};
 ghost use Rattle.room.specs.Lent.{Stepped};
+ghost use Rattle.room.specs.Reaches.{mayChange, Spares};
 
 // Record i of a table.
 fn load(t: &[u8], i: usize) -> Record
@@ -135,8 +139,71 @@ pub(crate) fn valid(t: &[u8]) -> bool
     records_ok(t) & houses_ok(t)
 }
 
+// Which records of a house may change: that of one unit, those that are addressed, or any. A unit above 15 is none.
+struct Reach {
+    unit: u8,
+    called: bool,
+    any: bool,
+}
+
+fn reaching(unit: u8, called: bool, any: bool) -> Reach
+    ensures { λ o. ⌜ o ≡ record { unit = unit; called = called; any = any } ⌝ }
+{
+    Reach {
+        unit: unit,
+        called: called,
+        any: any,
+    }
+}
+
+// Which records a function may change.
+fn reach_by(f: Function) -> Reach
+    ensures { λ o. ⌜ ((n : ℕ) (r : Record) → mayChange o n r ≡ false → obeyed f r ≡ r) ⌝ }
+{
+    match f {
+        Function::On => reaching(255, true, false),
+        Function::Off => reaching(255, true, false),
+        Function::Dim => reaching(255, true, false),
+        Function::Bright => reaching(255, true, false),
+        Function::AllLightsOn => reaching(255, false, true),
+        Function::AllLightsOff => reaching(255, false, true),
+        Function::AllUnitsOff => reaching(255, false, true),
+        Function::HailRequest => reaching(255, false, false),
+        Function::HailAcknowledge => reaching(255, false, false),
+        Function::StatusOn => reaching(255, false, false),
+        Function::StatusOff => reaching(255, false, false),
+        Function::StatusRequest => reaching(255, false, false),
+    }
+}
+
+// Which records an act may change, by the house's own bytes.
+fn reach_of(act: Act, own: House) -> Reach
+    ensures { λ o. ⌜ Spares act own o ⌝ }
+{
+    match act {
+        Act::Nothing => reaching(255, false, false),
+        Act::Address { unit } => reaching(unit, own.heard == 1, false),
+        Act::Obey(f) => reach_by(f),
+        Act::Join { unit, group: _ } => reaching(unit, false, false),
+        Act::Level { unit, level: _ } => reaching(unit, false, false),
+        Act::JoinAt {
+            unit,
+            group: _,
+            level: _,
+        } => reaching(unit, false, false),
+        Act::UnitsOn => reaching(255, false, true),
+        Act::UnitsOff => reaching(255, false, true),
+        Act::Leave { unit, groups: _ } => reaching(unit, false, false),
+        Act::LeaveHouse { groups: _ } => reaching(255, false, true),
+        Act::Execute { group: _ } => reaching(255, false, true),
+        Act::GroupOff { group: _ } => reaching(255, false, true),
+        Act::GroupDim { group: _ } => reaching(255, false, true),
+        Act::GroupBright { group: _ } => reaching(255, false, true),
+    }
+}
+
 // Steps record i of a table, as that of unit n, and answers 1 where its level changed.
-fn step_at(t: &mut [u8], i: usize, act: Act, own: House, n: u8) -> usize
+fn step_record(t: &mut [u8], i: usize, act: Act, own: House, n: u8) -> usize
     requires { ⌜ (length (now t) ≡ TABLE-BYTES) × (i < RECORDS) ⌝ }
     ensures { λ r. ⌜ Stepped act own n i (now (t .entry)) (now (t .exit)) r ⌝ }
 {
@@ -146,16 +213,30 @@ fn step_at(t: &mut [u8], i: usize, act: Act, own: House, n: u8) -> usize
     if before.level == after.level { 0 } else { 1 }
 }
 
+// The same, and a record that does not change is passed over by a look at one byte.
+fn step_at(t: &mut [u8], i: usize, act: Act, own: House, n: u8, o: Reach) -> usize
+    requires { ⌜ (length (now t) ≡ TABLE-BYTES) × (i < RECORDS) × Spares act own o ⌝ }
+    ensures { λ r. ⌜ Stepped act own n i (now (t .entry)) (now (t .exit)) r ⌝ }
+{
+    let called = !(t[i * RECORD_BYTES + 2] == 0);
+    if o.any | ((n == o.unit) | (o.called & called)) {
+        step_record(t, i, act, own, n)
+    } else {
+        0
+    }
+}
+
 // Steps the sixteen records of a house, and answers how many levels changed.
 fn step_house(t: &mut [u8], house: usize, act: Act, own: House) -> usize
     requires { ⌜ (length (now t) ≡ TABLE-BYTES) × (house < HOUSES) ⌝ }
     ensures { λ r. ⌜ (now (t .exit) ≡ stepHouse UNITS act own house (now (t .entry))) × (r ≡ changed RECORDS (now (t .entry)) (now (t .exit))) ⌝ }
 {
     let first = house * UNITS;
+    let o = reach_of(act, own);
     let mut count: usize = 0;
     let mut n: usize = 0;
     while n < UNITS {
-        count = count + step_at(t, first + n, act, own, n as u8);
+        count = count + step_at(t, first + n, act, own, n as u8, o);
         n += 1;
     }
     count

@@ -1,6 +1,5 @@
 -- Laws of what an act reaches, and of what it counts.
 --
---     byte-of-record      a byte of a table as a byte of its record
 --     step-changed        at most one level changes a step
 --     step-unreached      a record that an act does not reach stays
 use mathlib.Core.Path.{_≡_, refl, sym, ap}
@@ -24,19 +23,8 @@ use Rattle.record.specs.declared.House.{House}
 use Rattle.record.specs.Layout.{RECORD-BYTES, UNITS, HOUSES, RECORDS, TABLE-BYTES, recordAt, bytesOf, present, lamp, member, preset, withAddressed}
 use Rattle.record.specs.ModuleTable.{relevel, lit, dimmed, brightened, addressed, obeyed, levelFor, joined, left, acted, stepRecord, stepHouse, changed}
 use Rattle.room.proofs.TableLaws.{changed-none, changed-put, length-step, step-other}
+use Rattle.room.proofs.StillLaws.{unlevelled, unchosen}
 use Rattle.room_laws.specs.Statements.{hears, reaches}
-
-pub byte-of-record : (t : List ℕ) (i k : ℕ) → k < RECORD-BYTES → getD t (i * RECORD-BYTES + k) 0 ≡ getD (bytesOf (recordAt t i)) k 0
-unfolding recordAt
-byte-of-record t i zero h = ap (λ (j : ℕ). getD t j 0) (add-zero (i * RECORD-BYTES))
-byte-of-record t i (suc zero) h = refl
-byte-of-record t i (suc (suc zero)) h = refl
-byte-of-record t i (suc (suc (suc zero))) h = refl
-byte-of-record t i (suc (suc (suc (suc zero)))) h = refl
-byte-of-record t i (suc (suc (suc (suc (suc zero))))) h = refl
-byte-of-record t i (suc (suc (suc (suc (suc (suc zero)))))) h = refl
-byte-of-record t i (suc (suc (suc (suc (suc (suc (suc zero))))))) h = refl
-byte-of-record t i (suc (suc (suc (suc (suc (suc (suc (suc k)))))))) h = absurd (omega arith)
 
 pub step-changed : (a : Act) (own : House) (h : ℕ) (t : List ℕ) (n : ℕ) → n ≤ UNITS → h < HOUSES → length t ≡ TABLE-BYTES
     → changed RECORDS t (stepHouse n a own h t) ≤ n
@@ -53,14 +41,6 @@ step-changed a own h t (suc n) room house size =
     (omega arith)
 
 -- ---- a record that an act does not reach
-
--- a level that is not changed
-unlevelled : (b : Bool) (x : ℕ) (r : Record) → b ≡ false → relevel b x r ≡ r
-unlevelled b x r e = rw e
-
--- a record that is not chosen
-unchosen : (b : Bool) (s r : Record) → b ≡ false → pick b s r ≡ r
-unchosen b s r e = rw e
 
 unheard : (f : Function) (r : Record) → hears f r ≡ false → obeyed f r ≡ r
 unheard On r e = unlevelled (addressed r) (lit (r .level)) r e

@@ -22,12 +22,12 @@ use Rattle.record.specs.declared.House.{House}
 use Rattle.record.specs.Layout.{RECORD-BYTES, UNITS, RECORDS, HEARD-AT, recordAt, bytesOf, houseAt, present}
 use Rattle.record.specs.ModuleTable.{joined, left, acted, stepRecord, houseAfter, stepHouse, runAct}
 use Rattle.room.specs.Rooms.{Room, roomAfter, applyAnswer, roomReport, levelsOf}
-use Rattle.room.proofs.TableLaws.{changed-ext, record-put-house}
+use Rattle.room.proofs.TableLaws.{byte-of-record, changed-ext, record-put-house}
 use Rattle.room.proofs.HouseLaws.{run-length, run-record, run-byte, run-house, run-house-other, whole}
 use Rattle.room.proofs.ApplyLaws.{house-below, Ran, Outcome, stays, did, outcome}
 use Rattle.room_laws.specs.Statements.{ownByte, planConcerns, ByPlan, OwnHouseOnly, OthersStay, RecordByRecord, RefusedStays, CountAtMost16}
 use Rattle.room_laws.specs.Statements.{ExtendedKeeps}
-use Rattle.room_laws.proofs.ReachLaws.{byte-of-record, step-changed, step-unreached}
+use Rattle.room_laws.proofs.ReachLaws.{step-changed, step-unreached}
 
 -- ---- only the own house
 

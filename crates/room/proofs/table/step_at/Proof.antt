@@ -1,60 +1,42 @@
--- `step_at` meets its contract: what is stored is the record that was loaded, stepped, and the test compares their levels.
-use mathlib.Core.Path.{sym, _∙_}
-use native.Mathlib.Omega.{arith}
-use borrow.Author.Tests.{eq-eqb, ne-eqb}
+-- `step_at` meets its contract: a record that is not among those that may change is stepped by leaving it.
+use Rattle.record.specs.Layout.{recordAt}
+use Rattle.room.proofs.StillLaws.{kept}
 use borrow.Author.Needs.{needs}
 use Rattle.room.proofs.table.step_at.Statement.{statement}
 use Rattle.room.proofs.table.step_at.Tie as tie
 
-load-requires : tie.Need-load-requires
-load-requires c κs = search needs
+mul-called : tie.Need-mul-called
+mul-called c = search needs
 
-step-requires : tie.Need-step-requires
-step-requires c κs = search needs
+add-called : tie.Need-add-called
+add-called c = search needs
 
-store-requires : tie.Need-store-requires
-store-requires c κs = search needs
+slice-read-called : tie.Need-slice-read-called
+slice-read-called c = search needs
+
+step-record-requires : tie.Need-step-record-requires
+step-record-requires c κs = search needs
 
 same-length : tie.Need-same-length
 same-length c = search needs
 
 returns : tie.Need-returns
-returns c =
-    let called = c .before .before .before .before .before in
-    let b = called .before .before .before .before .before .before .args .t .now in
-    let i = called .before .before .before .before .before .before .args .i in
-    let loaded = called .before .before .before .load .ensures in
-    let stepped = called .before .before .step .ensures in
-    record {
-      table = called .store .ensures ∙ simp (stepped, loaded);
-      count = simp (sym loaded, sym stepped, eq-eqb _ _ (c .if1 .taken));
-      small = omega arith;
-    }
-
-same-length-2 : tie.Need-same-length-2
-same-length-2 c = search needs
+returns c = search needs
 
 returns-2 : tie.Need-returns-2
+unfolding recordAt
 returns-2 c =
-    let called = c .before .before .before .before .before in
-    let b = called .before .before .before .before .before .before .args .t .now in
-    let i = called .before .before .before .before .before .before .args .i in
-    let loaded = called .before .before .before .load .ensures in
-    let stepped = called .before .before .step .ensures in
-    record {
-      table = called .store .ensures ∙ simp (stepped, loaded);
-      count = simp (sym loaded, sym stepped, ne-eqb _ _ (c .if1 .left));
-      small = omega arith;
-    }
+    let start = c .before .before .before .before .before .before in
+    kept _ _ _ (start .args .i) (start .args .t .now) (start .args .o) (start .pre .0) (start .pre .1) (start .pre .2) (c .if1 .left)
 
 pub step-at-spec : {M : Type 1} → statement M
 step-at-spec =
     tie.close
     (tie.spec
-    load-requires
-    step-requires
-    store-requires
+    mul-called
+    add-called
+    slice-read-called
+    step-record-requires
     same-length
     returns
-    same-length-2
     returns-2)

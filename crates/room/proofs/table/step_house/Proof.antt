@@ -9,13 +9,16 @@ use Rattle.room.proofs.table.step_house.Statement.{statement}
 use Rattle.room.proofs.table.step_house.Tie as tie
 
 abbrev Inv-loop : tie.InvT-loop
-Inv-loop t₀ house act own first count₀ n₀ t count n = Turn act own house t₀ t count n
+Inv-loop t₀ house act own first o count₀ n₀ t count n = Turn act own house t₀ t count n
 
 abbrev μ-loop : tie.MeasureT-loop
-μ-loop t₀ house act own first count₀ n₀ t count n = UNITS - n
+μ-loop t₀ house act own first o count₀ n₀ t count n = UNITS - n
 
 mul-first : tie.Need-mul-first Inv-loop μ-loop
 mul-first c = omega arith
+
+reach-of-requires : tie.Need-reach-of-requires Inv-loop μ-loop
+reach-of-requires c κs = tt
 
 loop-holds : tie.Need-loop-holds Inv-loop μ-loop
 loop-holds c = turn-first _ _ _ _
@@ -27,7 +30,9 @@ cast-step-at : tie.Need-cast-step-at Inv-loop μ-loop
 cast-step-at c = omega arith
 
 step-at-requires : tie.Need-step-at-requires Inv-loop μ-loop
-step-at-requires c κs = (turn-length _ _ _ _ _ _ _ (c .before .before .loop .inv) ∙ c .before .before .before .before .pre .0, omega arith)
+step-at-requires c κs =
+    let start = c .before .before .before .before .before in
+    (turn-length _ _ _ _ _ _ _ (c .before .before .loop .inv) ∙ start .pre .0, omega arith, c .before .before .before .reach-of .ensures)
 
 add-count : tie.Need-add-count Inv-loop μ-loop
 add-count c = omega (arith, c .before .before .before .before .before .loop .inv .few, c .before .before .step-at .ensures .small)
@@ -40,7 +45,7 @@ loop-less c = omega arith
 
 loop-again : tie.Need-loop-again Inv-loop μ-loop
 loop-again c =
-    let start = c .before .before .before .before .before .before .before in
+    let start = c .before .before .before .before .before .before .before .before in
     let loop = c .before .before .before .before .before .loop in
     turn-next _ _ _ _ _ _ _ (loop .inv) _ _ (start .pre .0) (start .pre .1)
     (c .before .before .before .before .loop-test .taken) (c .before .before .step-at .ensures)
@@ -58,6 +63,7 @@ step-house-spec =
     Inv-loop
     μ-loop
     mul-first
+    reach-of-requires
     loop-holds
     add-step-at
     cast-step-at
