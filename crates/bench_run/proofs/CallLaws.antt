@@ -1,10 +1,10 @@
 -- Laws of calls one after the other.
 --
---     mask-below, mask-cons               the number of which stations are DONE
---     bench-takes                         a call goes by its first n draws
---     refused-call-leaves                 RefusedCallLeaves
---     Going, going-first, going-next      where a run of calls stands: lines and marks so far, the stations, the count
---     draws-left, going-last              the next call's draws are there; what all calls leave
+--     mask-below, mask-cons                    the number of which stations are DONE
+--     bench-takes                              a call goes by its first n draws
+--     refused-call-leaves                      RefusedCallLeaves
+--     Calling, calling-first, calling-next     where a run of calls stands: lines and marks so far, the stations, the count
+--     draws-left, calling-last                 the next call's draws are there; what all calls leave
 use mathlib.Core.Path.{_≡_, refl, sym, ap, ap₂, subst, _∙_}
 use mathlib.Core.Bool.{Bool, true, false}
 use mathlib.Core.List.{List, [], _∷_, _++_, map-append, flatMap, append-nil}
@@ -129,7 +129,7 @@ turns-length n slots draws (suc k) =
 -- ---- calls one after the other
 
 -- after j calls
-pub record Going (n : ℕ) (slots : List Station) (draws lines marks linesNow marksNow : List ℕ) (current : List Station) (count at j : ℕ) : Type 0 where
+pub record Calling (n : ℕ) (slots : List Station) (draws lines marks linesNow marksNow : List ℕ) (current : List Station) (count at j : ℕ) : Type 0 where
   pub most : n ≤ 16
   pub whole : length draws ≡ n * length lines
   pub room : 2 * length lines ≤ length marks
@@ -143,10 +143,10 @@ pub record Going (n : ℕ) (slots : List Station) (draws lines marks linesNow ma
   pub lining : linesNow ≡ lineBytes (turnsOf n slots draws j) ++ drop j lines
   pub marking : marksNow ≡ flatMap markBytes (turnsOf n slots draws j) ++ drop (2 * j) marks
 
-pub going-first : (n : ℕ) (slots : List Station) (draws lines marks : List ℕ) → n ≤ 16 → length draws ≡ n * length lines → 2 * length lines ≤ length marks
-    → Going n slots draws lines marks lines marks slots 0 0 0
+pub calling-first : (n : ℕ) (slots : List Station) (draws lines marks : List ℕ) → n ≤ 16 → length draws ≡ n * length lines → 2 * length lines ≤ length marks
+    → Calling n slots draws lines marks lines marks slots 0 0 0
 unfolding run callsOf turnsOf flatMap
-going-first n slots draws lines marks most whole room = record {
+calling-first n slots draws lines marks most whole room = record {
   most = most;
   whole = whole;
   room = room;
@@ -162,15 +162,15 @@ going-first n slots draws lines marks most whole room = record {
 }
 
 module _ {n : ℕ} {slots : List Station} {draws lines marks linesNow marksNow : List ℕ} {current : List Station} {count at j : ℕ}
-    (g : Going n slots draws lines marks linesNow marksNow current count at j) where
+    (g : Calling n slots draws lines marks linesNow marksNow current count at j) where
   abbrev turns : List BenchTurn
   turns = turnsOf n slots draws j
 
-  pub going-last : length lines ≤ j
+  pub calling-last : length lines ≤ j
       → (count ≡ length (momentAfter n slots draws (length lines) .past))
       × ((linesNow ≡ lineBytes (turnsOf n slots draws (length lines)))
       × (marksNow ≡ flatMap markBytes (turnsOf n slots draws (length lines)) ++ drop (2 * length lines) marks))
-  going-last end =
+  calling-last end =
       let all : j ≡ length lines = omega (arith, g .within) in (
         g .counting ∙ ap (λ (k : ℕ). length (momentAfter n slots draws k .past)) all,
         (
@@ -217,11 +217,11 @@ module _ {n : ℕ} {slots : List Station} {draws lines marks linesNow marksNow :
           ∙ ap (λ (y : ℕ). flatMap markBytes turns ++ (y / 256 % 256 ∷ y % 256 ∷ [])) (sym e)
           ∙ sym (append-snoc (flatMap markBytes turns) (m / 256 % 256) (m % 256 ∷ []))
 
-      pub going-next : {x m k : ℕ} → x ≡ lineByte (o .answer) → m ≡ maskOf (o .done) → (k ≡ counts (o .answer)) × (k ≤ 1)
-          → Going n slots draws lines marks
+      pub calling-next : {x m k : ℕ} → x ≡ lineByte (o .answer) → m ≡ maskOf (o .done) → (k ≡ counts (o .answer)) × (k ≤ 1)
+          → Calling n slots draws lines marks
           (set linesNow j x) (set (set marksNow (2 * j) (m / 256 % 256)) (2 * j + 1) (m % 256)) (o .slots) (count + k) (at + n) (j + 1)
       unfolding run callsOf
-      going-next {x} {m} {k} ex em ek =
+      calling-next {x} {m} {k} ex em ek =
           let now = momentAfter n slots draws j in
           let hi = m / 256 % 256 in
           let lo = m % 256 in
@@ -232,7 +232,7 @@ module _ {n : ℕ} {slots : List Station} {draws lines marks linesNow marksNow :
           let two : 2 * j + 1 + 1 ≡ 2 * suc j = omega arith in
           let linesNext = set linesNow j x in
           let marksNext = set (set marksNow (2 * j) hi) (2 * j + 1) lo in
-          subst (λ (i : ℕ). Going n slots draws lines marks linesNext marksNext (o .slots) (count + k) (at + n) i) (sym (add-one j))
+          subst (λ (i : ℕ). Calling n slots draws lines marks linesNext marksNext (o .slots) (count + k) (at + n) i) (sym (add-one j))
           (record {
             most = g .most;
             whole = g .whole;

@@ -1,10 +1,10 @@
 -- The bench's loops: what holds after i stations, and how one more keeps it.
 --
 --     draws-more                                        one draw more is judged
---     Heard: heard-none, heard-more, heard-idle         the look: the stations' states, the line, and what each sent
---            heard-bad, heard-fine, heard-line
+--     Looked: looked-none, looked-more, looked-idle     the look: the stations' states, the line, and what each sent
+--             looked-bad, looked-fine, looked-line
 --     Moving: moving-none, moving-more, moving-on       the move: the stations after the line's half-cycle, and the DONE marks
---            moving-same, all-moved, all-marked
+--             moving-same, all-moved, all-marked
 use mathlib.Core.Path.{_≡_, refl, sym, ap, ap₂, subst, _∙_}
 use mathlib.Core.Bool.{Bool, true, false, _&&_}
 use mathlib.Core.List.{List, [], _∷_, _++_, map, map-append}
@@ -35,7 +35,7 @@ getD-same zero k a = refl
 getD-same (suc n) zero a = refl
 getD-same (suc n) (suc k) a = getD-same n k a
 
-pub record Heard (n : ℕ) (slots : List Station) (line : ℕ) (sent : List ℕ) (i : ℕ) : Type 0 where
+pub record Looked (n : ℕ) (slots : List Station) (line : ℕ) (sent : List ℕ) (i : ℕ) : Type 0 where
   pub within : i ≤ n
   pub fine : stationsOk (slice i n slots) ≡ stationsOk (take n slots)
   pub loud : max line (lineOf (slice i n slots)) ≡ lineOf (take n slots)
@@ -44,8 +44,8 @@ pub record Heard (n : ℕ) (slots : List Station) (line : ℕ) (sent : List ℕ)
   pub clear : (k : ℕ) → i ≤ k → getD sent k 0 ≡ 0
   pub long : length sent ≡ length slots
 
-pub heard-none : (n : ℕ) (slots : List Station) → Heard n slots 0 (replicate (length slots) 0) 0
-heard-none n slots =
+pub looked-none : (n : ℕ) (slots : List Station) → Looked n slots 0 (replicate (length slots) 0) 0
+looked-none n slots =
     record {
       within = omega arith;
       fine = refl;
@@ -57,24 +57,24 @@ heard-none n slots =
     }
 
 module _ {n : ℕ} {slots : List Station} {line : ℕ} {sent : List ℕ} {i : ℕ} (few : n ≤ length slots) (h : i < n) (e : Station)
-    (r : Heard n slots line sent i) where
+    (r : Looked n slots line sent i) where
   next : slice i n slots ≡ getD slots i e ∷ slice (suc i) n slots
   next = slice-cons i n slots e h few
 
-  pub heard-bad : stationOk (getD slots i e) ≡ false → stationsOk (take n slots) ≡ false
+  pub looked-bad : stationOk (getD slots i e) ≡ false → stationsOk (take n slots) ≡ false
   unfolding stationsOk
-  heard-bad bad = sym (r .fine) ∙ rw (next, bad)
+  looked-bad bad = sym (r .fine) ∙ rw (next, bad)
 
-  pub heard-more : stationOk (getD slots i e) ≡ true → (half : ℕ) → sendsOf (getD slots i e) ≡ half → Heard n slots (max line half) (set sent i half) (suc i)
+  pub looked-more : stationOk (getD slots i e) ≡ true → (half : ℕ) → sendsOf (getD slots i e) ≡ half → Looked n slots (max line half) (set sent i half) (suc i)
   unfolding stationsOk lineOf
-  heard-more ok half is =
+  looked-more ok half is =
       let s = getD slots i e in
       let below : half ≤ 1 = subst (λ (x : ℕ). x ≤ 1) is (sends-below s) in
-      let judged : stationsOk (slice i n slots) ≡ stationsOk (slice (suc i) n slots) = rw (next, ok) in
+      let ahead : stationsOk (slice i n slots) ≡ stationsOk (slice (suc i) n slots) = rw (next, ok) in
       let step : lineOf (slice i n slots) ≡ max (sendsOf s) (lineOf (slice (suc i) n slots)) = rw next in
       record {
         within = h;
-        fine = sym judged ∙ r .fine;
+        fine = sym ahead ∙ r .fine;
         loud = omega (arith, r .loud);
         half = omega (arith, r .half);
         kept =
@@ -87,20 +87,20 @@ module _ {n : ℕ} {slots : List Station} {line : ℕ} {sent : List ℕ} {i : �
       }
 
   -- a station that sends nothing leaves the line and what was kept as they are
-  pub heard-idle : stationOk (getD slots i e) ≡ true → sendsOf (getD slots i e) ≡ 0 → Heard n slots line sent (suc i)
-  heard-idle ok is =
+  pub looked-idle : stationOk (getD slots i e) ≡ true → sendsOf (getD slots i e) ≡ 0 → Looked n slots line sent (suc i)
+  looked-idle ok is =
       let same : set sent i 0 ≡ sent = ap (set sent i) (sym (r .clear i (le-refl i))) ∙ set-getD sent i 0 in
-      subst (λ (l : ℕ). Heard n slots l sent (suc i)) (max-zero line)
-      (subst (λ (xs : List ℕ). Heard n slots (max line 0) xs (suc i)) same (heard-more ok 0 is))
+      subst (λ (l : ℕ). Looked n slots l sent (suc i)) (max-zero line)
+      (subst (λ (xs : List ℕ). Looked n slots (max line 0) xs (suc i)) same (looked-more ok 0 is))
 
-module _ {n : ℕ} {slots : List Station} {line : ℕ} {sent : List ℕ} (r : Heard n slots line sent n) where
-  pub heard-fine : stationsOk (take n slots) ≡ true
+module _ {n : ℕ} {slots : List Station} {line : ℕ} {sent : List ℕ} (r : Looked n slots line sent n) where
+  pub looked-fine : stationsOk (take n slots) ≡ true
   unfolding stationsOk
-  heard-fine = sym (r .fine) ∙ rw (slice-empty n slots)
+  looked-fine = sym (r .fine) ∙ rw (slice-empty n slots)
 
-  pub heard-line : line ≡ lineOf (take n slots)
+  pub looked-line : line ≡ lineOf (take n slots)
   unfolding lineOf
-  heard-line = sym (max-zero line) ∙ ap (λ (l : ℕ). max line l) (sym (ap lineOf (slice-empty n slots))) ∙ r .loud
+  looked-line = sym (max-zero line) ∙ ap (λ (l : ℕ). max line l) (sym (ap lineOf (slice-empty n slots))) ∙ r .loud
 
 -- ---- the move
 

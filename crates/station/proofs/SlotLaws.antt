@@ -23,7 +23,7 @@ use Rattle.station.specs.declared.Station.{Station}
 use Rattle.station.specs.declared.Held.the-variants.{Empty}
 use Rattle.station.specs.Stations.{stationOk, drawOk, sendsOf}
 use Rattle.station.proofs.SendLaws.{sends-below}
-use Rattle.station.proofs.TurnLaws.{Ready}
+use Rattle.station.proofs.TurnLaws.{Movable}
 use Rattle.station.specs.Benches.{lineOf, moveAll, doneAll, stationsOk, drawsOk, turnAll, benchOf, benchReport, benchCauses}
 use Rattle.station.specs.declared.bench.BenchTurn.{BenchTurn}
 
@@ -80,7 +80,7 @@ draw-at n draws enough i h t =
 pub ready-at : (n : ℕ) (slots : List Station) (draws sent : List ℕ) (line : ℕ) → n ≤ length slots → n ≤ length draws
     → stationsOk (take n slots) ≡ true → drawsOk (take n draws) ≡ true → line ≡ lineOf (take n slots)
     → take n sent ≡ map sendsOf (take n slots) → (i : ℕ) → i < n → (e : Station)
-    → Ready (getD slots i e) (getD sent i 0) line (getD draws i 0)
+    → Movable (getD slots i e) (getD sent i 0) line (getD draws i 0)
 ready-at n slots draws sent line few enough ok drawn heard kept i h e =
     let is = sent-at n slots few i h e sent kept in
     record {

@@ -1,7 +1,7 @@
 -- Laws of a station whose state is one of 01's.
 --
 --     sends-told, refused-told                   what the answer of `sends` says of the state
---     Ready, turn-empty                          a judged station that has sent and heard; an empty one stays
+--     Movable, turn-empty                        a judged station that has sent and heard; an empty one stays
 --     turn-aborts, turn-counts, turn-goes, turn-ends     what one half-cycle makes of one with a message, by the tests of `moves`
 --     by-done, by-going                          the turn that a move's numbers stand for
 --     send-promise, load-promise, turn-promise   what each answer reports, by its causes
@@ -57,7 +57,7 @@ module _ (s : Station) where
 -- ---- one half-cycle of a judged station
 
 -- what is known of a judged station that has sent its half-cycle and heard the line's
-pub record Ready (s : Station) (sent heard draw : ℕ) : Type 0 where
+pub record Movable (s : Station) (sent heard draw : ℕ) : Type 0 where
   pub half : heard ≤ 1
   pub ok : stationOk s ≡ true
   pub drawn : drawOk draw ≡ true
@@ -68,7 +68,7 @@ pub record Ready (s : Station) (sent heard draw : ℕ) : Type 0 where
 abbrev going : Station → Turn
 going s = record { answer = turn.Going; next = s }
 
-module _ {s : Station} {sent heard draw : ℕ} (r : Ready s sent heard draw) where
+module _ {s : Station} {sent heard draw : ℕ} (r : Movable s sent heard draw) where
   turn-moves : turnOf s heard draw ≡ heldMoves (s .held) s heard draw
   unfolding turnOf judged
   turn-moves = rw (le-leb heard 1 (r .half), r .ok, r .drawn, r .is, no-fault sent heard (r .kept))

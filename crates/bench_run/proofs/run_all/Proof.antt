@@ -1,16 +1,16 @@
--- `run_all` meets its contract. The loop's invariant (`Going`): after j calls lines and marks hold what those calls gave, and the stations and the
+-- `run_all` meets its contract. The loop's invariant (`Calling`): after j calls lines and marks hold what those calls gave, and the stations and the
 -- count are where they lead. A turn makes one call more.
 use Prim.Native.Nat.{_-_}
 use native.Mathlib.Omega.{arith}
 use lib.ListN.{length, length-set}
 use borrow.Author.Needs.{needs}
-use Rattle.bench_run.proofs.CallLaws.{Going, going-first, going-next, going-last, draws-left}
+use Rattle.bench_run.proofs.CallLaws.{Calling, calling-first, calling-next, calling-last, draws-left}
 use Rattle.bench_run.proofs.run_all.Statement.{statement}
 use Rattle.bench_run.proofs.run_all.Tie as tie
 
 abbrev Inv-loop : tie.InvT-loop
 Inv-loop n draws lines₀ marks₀ turn₀ count₀ at₀ j₀ lines marks turn count at j =
-    Going n (turn₀ .slots) draws lines₀ marks₀ lines marks (turn .slots) count at j
+    Calling n (turn₀ .slots) draws lines₀ marks₀ lines marks (turn .slots) count at j
 
 abbrev μ-loop : tie.MeasureT-loop
 μ-loop n draws lines₀ marks₀ turn₀ count₀ at₀ j₀ lines marks turn count at j = length lines₀ - j
@@ -19,7 +19,7 @@ loop-holds : tie.Need-loop-holds Inv-loop μ-loop
 loop-holds c =
     let a = c .before .before .before .args in
     let p = c .before .before .before .pre in
-    going-first (a .n) (a .slots) (a .draws .now) (a .lines .now) (a .marks .now) (p .0) (p .1) (p .2)
+    calling-first (a .n) (a .slots) (a .draws .now) (a .lines .now) (a .marks .now) (p .0) (p .1) (p .2)
 
 draws-at-requires : tie.Need-draws-at-requires Inv-loop μ-loop
 draws-at-requires c κs =
@@ -79,7 +79,7 @@ loop-less c = omega arith
 loop-again : tie.Need-loop-again Inv-loop μ-loop
 loop-again c =
     let now = c .before .before .before .before .before .before .before .before .loop in
-    going-next (now .inv) (omega (arith, now .inv .lines-long))
+    calling-next (now .inv) (omega (arith, now .inv .lines-long))
     (c .before .before .before .before .half-cycle .result) (c .before .before .before .before .before .draws-at .result)
     (c .before .before .before .before .half-cycle .ensures .0) (c .before .before .before .before .before .draws-at .ensures)
     (c .before .before .line-byte .ensures) (c .before .mask-of .ensures) (c .counts-as .ensures)
@@ -91,7 +91,7 @@ same-length-2 : tie.Need-same-length-2 Inv-loop μ-loop
 same-length-2 c = c .before .loop .inv .marks-long
 
 returns : tie.Need-returns Inv-loop μ-loop
-returns c = let now = c .before .loop in going-last (now .inv) (omega (arith, now .inv .lines-long, c .loop-test .left))
+returns c = let now = c .before .loop in calling-last (now .inv) (omega (arith, now .inv .lines-long, c .loop-test .left))
 
 pub run-all-spec : {M : Type 1} → statement M
 run-all-spec =

@@ -1,6 +1,6 @@
 -- `moved` meets its contract: an empty station stays, and one with a message has the numbers of its move, or is empty when done.
 use mathlib.Core.Path.{sym}
-use Rattle.station.proofs.TurnLaws.{Ready, turn-empty, by-done, by-going}
+use Rattle.station.proofs.TurnLaws.{Movable, turn-empty, by-done, by-going}
 use borrow.Author.Needs.{needs}
 use Rattle.station.proofs.moved.Statement.{statement}
 use Rattle.station.proofs.moved.Tie as tie
@@ -17,7 +17,7 @@ moves-requires c κs = (c .before .held .given .1, c .before .before .before .pr
 empty-requires : tie.Need-empty-requires
 empty-requires c κs = search needs
 
-ready : (c : tie.Start) → Ready (c .args .s) (c .args .sent) (c .args .heard) (c .args .draw)
+ready : (c : tie.Start) → Movable (c .args .s) (c .args .sent) (c .args .heard) (c .args .draw)
 ready c =
     record {
       half = c .pre .1 .1 .1;

@@ -2,12 +2,12 @@
 -- below its wait, and then goes on in its burst, whose last place is one below the burst's length.
 use native.Mathlib.Omega.{arith}
 use Rattle.burst.proofs.Writing.{frame-of-bits}
-use Rattle.station.proofs.TurnLaws.{Ready, turn-aborts, turn-counts, turn-goes, turn-ends}
+use Rattle.station.proofs.TurnLaws.{Movable, turn-aborts, turn-counts, turn-goes, turn-ends}
 use borrow.Author.Needs.{needs}
 use Rattle.station.proofs.moves.Statement.{statement}
 use Rattle.station.proofs.moves.Tie as tie
 
-ready : (c : tie.Start) → Ready (c .args .s) (c .args .sent) (c .args .heard) (c .args .draw)
+ready : (c : tie.Start) → Movable (c .args .s) (c .args .sent) (c .args .heard) (c .args .draw)
 ready c =
     record {
       half = c .pre .1 .1 .1 .1;

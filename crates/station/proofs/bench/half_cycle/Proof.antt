@@ -1,4 +1,4 @@
--- `half_cycle` meets its contract. The loop's invariant (`Heard`): the stations passed are in their states, the line is what they send,
+-- `half_cycle` meets its contract. The loop's invariant (`Looked`): the stations passed are in their states, the line is what they send,
 -- and what each of them sent is kept. The tests are those of `benchCauses`, in its order, and what is left is the move of all.
 use borrow.Author.Needs.{needs}
 use mathlib.Core.Path.{_≡_, sym, subst, _∙_}
@@ -16,12 +16,12 @@ use Rattle.station.proofs.StateLaws.{idle-told}
 use Rattle.station.proofs.TurnLaws.{sends-told, refused-told}
 use Rattle.station.specs.Benches.{benchOf}
 use Rattle.station.proofs.SlotLaws.{zeros, or-max, bench-promise}
-use Rattle.station.proofs.Loops.{Heard, heard-none, heard-more, heard-idle, heard-bad, heard-fine, heard-line}
+use Rattle.station.proofs.Loops.{Looked, looked-none, looked-more, looked-idle, looked-bad, looked-fine, looked-line}
 use Rattle.station.proofs.bench.half_cycle.Statement.{statement}
 use Rattle.station.proofs.bench.half_cycle.Tie as tie
 
 abbrev Inv-loop : tie.InvT-loop
-Inv-loop n draws slots line₀ sent₀ k₀ line sent k = Heard n slots line sent k
+Inv-loop n draws slots line₀ sent₀ k₀ line sent k = Looked n slots line sent k
 
 abbrev μ-loop : tie.MeasureT-loop
 μ-loop n draws slots line₀ sent₀ k₀ line sent k = n - k
@@ -36,11 +36,11 @@ few c = let n = c .before .args .n in leb-true n 16 (and-eq-true-iff (leb 1 n) (
 -- after the loop all n have been heard
 heard : (c : tie.After-loop Inv-loop μ-loop)
     → let a = c .before .before .before .args in
-    Heard (a .n) (a .t1) (c .before .loop .line) (c .before .loop .sent) (a .n)
+    Looked (a .n) (a .t1) (c .before .loop .line) (c .before .loop .sent) (a .n)
 heard c =
     let a = c .before .before .before .args in
     let end : c .before .loop .k ≡ a .n = omega (arith, c .before .loop .inv .within) in
-    subst (λ (k : ℕ). Heard (a .n) (a .t1) (c .before .loop .line) (c .before .loop .sent) k) end (c .before .loop .inv)
+    subst (λ (k : ℕ). Looked (a .n) (a .t1) (c .before .loop .line) (c .before .loop .sent) k) end (c .before .loop .inv)
 
 refused-requires : tie.Need-refused-requires Inv-loop μ-loop
 refused-requires c κs = search needs
@@ -55,7 +55,7 @@ loop-holds : tie.Need-loop-holds Inv-loop μ-loop
 loop-holds c =
     let a = c .before .args in
     let sixteen : length (a .t1) ≡ 16 = omega arith in
-    subst (λ (k : ℕ). Heard (a .n) (a .t1) 0 (replicate k 0) 0) sixteen (heard-none (a .n) (a .t1))
+    subst (λ (k : ℕ). Looked (a .n) (a .t1) 0 (replicate k 0) 0) sixteen (looked-none (a .n) (a .t1))
 
 mul-idle : tie.Need-mul-idle Inv-loop μ-loop
 mul-idle c = omega (arith, few (c .before .before))
@@ -88,7 +88,7 @@ returns-2 c =
     let count = counted (early .before .before) in
     let s = getD (early .before .before .before .args .t1) (early .before .loop .k) zeros in
     let bad = refused-told s _ (sym (c .before .before .before .sends .ensures .0) ∙ c .before .enum-told .given .1) in
-    let wrong = heard-bad (omega (arith, few (early .before .before))) (early .loop-test .taken) zeros (early .before .loop .inv) bad in
+    let wrong = looked-bad (omega (arith, few (early .before .before))) (early .loop-test .taken) zeros (early .before .loop .inv) bad in
     let a = early .before .before .before .args in
     bench-promise (a .n) (a .t1) (a .draws) (search ladder)
 
@@ -118,11 +118,11 @@ loop-again c =
     let told = sends-told s half (sym (w .2 .ensures .0) ∙ w .4 .given .1) in
     let below = subst (λ (x : ℕ). x ≤ 1) (told .1) (sends-below s) in
     rw (w .6 ∙ or-max (l .line) half (l .inv .half) below, w .7)
-    (heard-more all (c .before .before .before .loop-test .taken) zeros (l .inv) (told .0) half (told .1)))
+    (looked-more all (c .before .before .before .loop-test .taken) zeros (l .inv) (told .0) half (told .1)))
     (λ w.
     let told = idle-told s (fine (c .before .idle .ensures) (w .0 .left)) in
     rw (w .1, w .2)
-    (heard-idle all (c .before .before .before .loop-test .taken) zeros (l .inv) (told .0) (told .1)))
+    (looked-idle all (c .before .before .before .loop-test .taken) zeros (l .inv) (told .0) (told .1)))
     (c .if2 .came))
 
 draws-fine-requires : tie.Need-draws-fine-requires Inv-loop μ-loop
@@ -135,7 +135,7 @@ returns-3 : tie.Need-returns-3 Inv-loop μ-loop
 unfolding benchOf
 returns-3 c =
     let count = counted (c .before .before .before .before .before) in
-    let all = heard-fine (heard (c .before .before .before)) in
+    let all = looked-fine (heard (c .before .before .before)) in
     let a = c .before .before .before .before .before .before .args in
     bench-promise (a .n) (a .t1) (a .draws) (search ladder depth 8)
 
@@ -144,13 +144,13 @@ move-all-requires c κs =
     let most = few (c .before .before .before .before) in
     let all = heard (c .before .before) in
     let drawn = fine (c .before .draws-fine .ensures) (c .if3 .left) in
-    (omega (arith, most), (omega (arith, most), (heard-fine all, (drawn, (heard-line all, all .kept)))))
+    (omega (arith, most), (omega (arith, most), (looked-fine all, (drawn, (looked-line all, all .kept)))))
 
 returns-4 : tie.Need-returns-4 Inv-loop μ-loop
 unfolding benchOf
 returns-4 c =
     let count = counted (c .before .before .before .before .before) in
-    let all = heard-fine (heard (c .before .before .before)) in
+    let all = looked-fine (heard (c .before .before .before)) in
     let a = c .before .before .before .before .before .before .args in
     bench-promise (a .n) (a .t1) (a .draws) (search ladder depth 8)
 

@@ -12,7 +12,7 @@ use Rattle.station.specs.declared.Station.{Station}
 use Rattle.station.specs.declared.Held.{Held}
 use Rattle.station.specs.declared.Turn.{Turn}
 use Rattle.station.specs.Stations.{isDone}
-use Rattle.station.proofs.TurnLaws.{Ready, turn-empty, by-done, by-going}
+use Rattle.station.proofs.TurnLaws.{Movable, turn-empty, by-done, by-going}
 use Rattle.station.proofs.SlotLaws.{zeros, ready-at, three-numbers}
 use Rattle.station.specs.Benches.{turnAll}
 use Rattle.station.proofs.Loops.{Moving, as-it-was, moving-none, moving-more, moving-on, moving-same, all-moved, all-marked}
@@ -53,12 +53,12 @@ array-read-moves-2 c = search needs
 ready : (c : tie.In-loop Inv-loop μ-loop)
     → let a = c .before .before .args in
     let i = c .before .loop .i in
-    Ready (getD (c .before .loop .after) i zeros) (getD (a .t5) i 0) (a .line) (getD (a .t3) i 0)
+    Movable (getD (c .before .loop .after) i zeros) (getD (a .t5) i 0) (a .line) (getD (a .t3) i 0)
 ready c =
     let a = c .before .before .args in
     let p = c .before .before .pre in
     let i = c .before .loop .i in
-    subst (λ (s : Station). Ready s (getD (a .t5) i 0) (a .line) (getD (a .t3) i 0))
+    subst (λ (s : Station). Movable s (getD (a .t5) i 0) (a .line) (getD (a .t3) i 0))
     (sym (as-it-was (p .0) (p .1 .0) (c .loop-test .taken) zeros (c .before .loop .inv)))
     (ready-at (a .n) (a .slots) (a .t3) (a .t5) (a .line) (p .0) (p .1 .0) (p .1 .1 .0) (p .1 .1 .1 .0) (p .1 .1 .1 .1 .0) (p .1 .1 .1 .1 .1) i
     (c .loop-test .taken) zeros)
