@@ -3,9 +3,10 @@
 --     pair-put, again-put, front-put     one turn of `put_pairs`, of `put_again`, of `copy_front`
 --     frame-placed, burst-placed         the first frame, and both, in the array
 --     burst-taken                        the burst taken from the array
---     frame-at-most, count-at-most       the longest frame
+--     frame-at-most                      the longest frame
 --     frame-of-bits                      a frame's length from its bits
---     has-bits, no-bits, few-bits        what the answer of `word_of` tells
+--     count-at-most, few-bits            a count of bits is 9 or 29
+--     has-bits, no-bits                  what the answer of `word_of` tells
 --     length-of-word, burst-copied       the writer's count and its buffer
 --     burst-lowest                       BurstLowest
 use mathlib.Core.Path.{_≡_, refl, sym, ap, ap₂, subst, _∙_}
@@ -31,7 +32,7 @@ use Rattle.message.specs.declared.word.Word.{Word}
 use Rattle.message.specs.declared.word.WordAnswer.{WordAnswer}
 use Rattle.message.specs.declared.word.WordAnswer.the-variants.{Word as Bits, Refused as NoBits}
 use Rattle.burst.specs.Frames.{bitsOf, pairsOf, frameOf, frameLength, burstOf, burstLength}
-use Rattle.burst.specs.Writer.{burstCauses, written, BurstLowest}
+use Rattle.burst.specs.Writer.{burstCauses, written, frameBits, BurstLowest}
 use Rattle.burst.proofs.FrameLaws.{frame-length, burst-length}
 
 -- the next bit and its complement are put, and the rest is still to come
@@ -123,11 +124,6 @@ frame-of-bits (Address h u) = refl
 frame-of-bits (Command h f) = refl
 frame-of-bits (Extended h u d c) = refl
 
-pub count-at-most : (m : Message) → bitCount m ≤ 29
-count-at-most (Address h u) = lit≤ tt
-count-at-most (Command h f) = lit≤ tt
-count-at-most (Extended h u d c) = lit≤ tt
-
 -- ---- what the writer answers
 
 abbrev isBits : WordAnswer → Bool
@@ -151,8 +147,21 @@ no-bits m why e = go (messageOk m) e
     go true p = absurd (true≢false (ap isBits p))
     go false p = (refl, cc)
 
-pub few-bits : (m : Message) (w : Word) → w ≡ wordIn m → w .count ≤ 29
-few-bits m w e = subst (λ (v : Word). v .count ≤ 29) (sym e) (count-at-most m)
+pub count-at-most : (m : Message) → bitCount m ≤ 29
+count-at-most (Address h u) = lit≤ tt
+count-at-most (Command h f) = lit≤ tt
+count-at-most (Extended h u d c) = lit≤ tt
+
+nine-or-all : (m : Message) → frameBits (bitCount m) ≡ true
+nine-or-all (Address h u) = refl
+nine-or-all (Command h f) = refl
+nine-or-all (Extended h u d c) = refl
+
+pub few-bits : (m : Message) (w : Word) → w ≡ wordIn m → (w .count ≤ 29) × (frameBits (w .count) ≡ true)
+few-bits m w e = (
+  subst (λ (v : Word). v .count ≤ 29) (sym e) (count-at-most m),
+  subst (λ (v : Word). frameBits (v .count) ≡ true) (sym e) (nine-or-all m),
+)
 
 -- a frame's length, twice, is the burst's
 pub length-of-word : (m : Message) (w : Word) (f : ℕ) → w ≡ wordIn m → f ≡ 4 + (w .count + w .count) → f ≡ frameLength m

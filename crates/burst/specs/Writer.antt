@@ -2,7 +2,8 @@
 use Prim.Native.Nat.{ℕ}
 use mathlib.Core.Path.{_≡_}
 use mathlib.Core.List.{List, [], _∷_, _++_}
-use lib.Dec.{leb}
+use mathlib.Core.Bool.{Bool, _||_}
+use lib.Dec.{eqb, leb}
 use lib.ListN.{length, drop}
 use Rattle.ground.specs.Refusals.{Cause, unless, judged, numberGiven, lowest}
 use Rattle.ground.specs.declared.CountAnswer.{CountAnswer}
@@ -11,6 +12,10 @@ use Rattle.ground.specs.declared.Refusal.the-variants as refusal
 use Rattle.message.specs.Messages.{messageOk}
 use Rattle.message.specs.declared.Message.{Message}
 use Rattle.burst.specs.Frames.{burstOf, burstLength}
+
+-- how many bits a frame carries
+abbrev pub frameBits : ℕ → Bool
+frameBits n = eqb n 9 || eqb n 29
 
 -- "buffer below the 44 or 124 of this burst"
 abbrev pub roomCauses : Message → ℕ → List Cause

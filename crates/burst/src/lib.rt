@@ -7,6 +7,7 @@ use message::word::WordAnswer;
 use message::word::word_of;
 ghost use mathlib.Core.Path.{_≡_};
 ghost use mathlib.Core.List.{_∷_, [], _++_};
+ghost use mathlib.Core.Bool.{true};
 ghost use Prim.Native.Nat.{_+_, _*_, _-_, _≤_};
 ghost use lib.ListN.{length, take, drop, replicate};
 ghost use lib.Seq.{sets, paste};
@@ -15,7 +16,7 @@ ghost use Rattle.ground.specs.declared.CountAnswer.the-variants.{Done, Refused}
 ghost use Rattle.message.specs.Words.{wordIn};
 ghost use Rattle.message.specs.declared.Message.{Message};
 ghost use Rattle.burst.specs.Frames.{bitsOf, pairsOf, burstOf, burstLength};
-ghost use Rattle.burst.specs.Writer.{roomCauses, written, burstCauses, burstAnswer, bufferAfter};
+ghost use Rattle.burst.specs.Writer.{frameBits, roomCauses, written, burstCauses, burstAnswer, bufferAfter};
 
 // Puts the n lowest bits of a word into the array from `at` on, highest first, each followed by its complement.
 fn put_pairs(a: [u8; 124], at: usize, word: u32, n: usize) -> [u8; 124]
@@ -35,16 +36,24 @@ fn put_pairs(a: [u8; 124], at: usize, word: u32, n: usize) -> [u8; 124]
     out
 }
 
+// How many bits: 9 or 29, told apart here so that the loops below have one of two lengths.
+fn bit_count(w: Word) -> usize
+    requires { ⌜ frameBits (w .count) ≡ true ⌝ }
+    ensures { λ r. ⌜ r ≡ w .count ⌝ }
+{
+    if w.count == 9 { 9 } else { 29 }
+}
+
 // The start and the pairs of a frame at the front of an array that is otherwise 0.
 fn first_frame(w: Word) -> [u8; 124]
-    requires { ⌜ w .count ≤ 29 ⌝ }
+    requires { ⌜ (w .count ≤ 29) × (frameBits (w .count) ≡ true) ⌝ }
     ensures { λ r. ⌜ r ≡ sets (1 ∷ 1 ∷ 1 ∷ replicate 121 0) 4 (pairsOf (bitsOf (w .count) (w .bits))) ⌝ }
 {
     let mut a = [0; 124];
     a[0] = 1;
     a[1] = 1;
     a[2] = 1;
-    put_pairs(a, 4, w.bits, w.count as usize)
+    put_pairs(a, 4, w.bits, bit_count(w))
 }
 
 // The first n entries of the array once more, from n on: the frame's second copy, with no gap.
@@ -63,16 +72,16 @@ fn put_again(a: [u8; 124], n: usize) -> [u8; 124]
 
 // How many half-cycles a frame of so many bits has: the start and a pair for each bit.
 fn frame_length(w: Word) -> usize
-    requires { ⌜ w .count ≤ 29 ⌝ }
+    requires { ⌜ (w .count ≤ 29) × (frameBits (w .count) ≡ true) ⌝ }
     ensures { λ r. ⌜ r ≡ 4 + (w .count + w .count) ⌝ }
 {
-    let bits = w.count as usize;
+    let bits = bit_count(w);
     4 + (bits + bits)
 }
 
 // The burst whole, at the front of an array that is otherwise 0.
 fn whole_burst(w: Word) -> [u8; 124]
-    requires { ⌜ w .count ≤ 29 ⌝ }
+    requires { ⌜ (w .count ≤ 29) × (frameBits (w .count) ≡ true) ⌝ }
     ensures { λ r. ⌜ ((m : Message) → w ≡ wordIn m → r ≡ burstOf m ++ replicate (124 - burstLength m) 0) ⌝ }
 {
     put_again(first_frame(w), frame_length(w))
@@ -92,7 +101,7 @@ fn copy_front(a: [u8; 124], count: usize, buf: &mut [u8])
 
 // Writes the burst of these bits to the buffer's front, if it has room: what is left of the writer once a message has its bits.
 fn write_word(w: Word, buf: &mut [u8]) -> CountAnswer
-    requires { ⌜ w .count ≤ 29 ⌝ }
+    requires { ⌜ (w .count ≤ 29) × (frameBits (w .count) ≡ true) ⌝ }
     ensures { λ r. ⌜ ((m : Message) → w ≡ wordIn m → r ≡ judged (roomCauses m (length (now (buf .entry)))) (Done (burstLength m)) Refused) ⌝ }
     ensures { λ r. ⌜ ((m : Message) → w ≡ wordIn m → now (buf .exit) ≡ judged (roomCauses m (length (now (buf .entry)))) (written m (now (buf .entry))) (λ why. now (buf .entry))) ⌝ }
 {

@@ -7,7 +7,7 @@ use radio::RadioCommand;
 use record::RECORD_BYTES;
 use record::TABLE_BYTES;
 use room::apply;
-use room::routes::mains_route;
+use room::mains::mains_route;
 use room::routes::radio_route;
 use show::text;
 
@@ -81,15 +81,21 @@ struct Listening {
     state: [u8; 11],
 }
 
-// Sends a message on the mains, its burst after three clear half-cycles, and prints what came of it.
-fn burst_to(before: Listening, m: Message) -> Listening {
+// A message's burst on the mains, after three clear half-cycles.
+fn line_of(m: Message) -> [u8; 47] {
     let mut line = [0u8; 47];
+    burst::write_burst(m, &mut line[3..]);
+    line
+}
+
+// Sends a message on the mains and prints what came of it.
+fn burst_to(before: Listening, m: Message) -> Listening {
+    let line = line_of(m);
     let mut events = [0u8; 282];
     let mut answers = [0u8; 376];
     let table = before.table;
     let mut t = table;
     let mut state = before.state;
-    burst::write_burst(m, &mut line[3..]);
     let a = mains_route(&mut state, &line, &mut t, &mut events, &mut answers);
     show::applied(m, a);
     show::changed_records(&table, &t);
