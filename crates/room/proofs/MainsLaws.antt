@@ -3,15 +3,15 @@
 --     LevelsOf, levels-next                      the levels of a table's first records, kept in a list
 --     changed-next                               one more record compared with the level kept of it
 --     five-at                                    five bytes of the events, read as a message
---     rooms-valid                                events leave a valid room valid
---     Turn, turn-first, turn-next, turn-last     events read back and applied, one after the other
+--     coded-valid, rooms-valid                   an event leaves a valid room valid, and so do events
+--     came-here, came-then, came-one, came-none, came-four, came-all      events read back and applied, one after the other
 --     events-applied, events-answered            what is read back from the bytes of events is what the events say
 --     heard-valid                                every message that a receiver in lent bytes gives is valid
 --     received, not-received                     what the receiver's own answer tells
 --     routed-done, routed-refused                what the route owes once everything but the events' room is judged
 --     mains-lowest                               MainsLowest
 use mathlib.Core.Path.{_≡_, refl, sym, ap, ap₂, subst, _∙_}
-use mathlib.Core.Bool.{Bool, true, false, false≢true}
+use mathlib.Core.Bool.{Bool, true, false, _||_, false≢true}
 use mathlib.Core.List.{List, [], _∷_, _++_, append-assoc, flatMap}
 use Prim.Native.Nat.{ℕ, zero, suc, _+_, _-_, _*_, _≤_, _<_}
 use native.Mathlib.Numerals.{add-one}
@@ -49,7 +49,7 @@ use Rattle.wire.proofs.MessageLaws.{messages-read-back}
 use Rattle.wire.proofs.RunLaws.{event-length}
 use Rattle.wire.proofs.HeardLaws.{heard-length}
 use Rattle.room.specs.Rooms.{Room, roomOf, roomOk, changes}
-use Rattle.room.specs.Lent.{readRoom, codedRoom, codedAnswer, firstRoom, codedRooms, codedAnswers, Routed}
+use Rattle.room.specs.Lent.{readRoom, codedRoom, codedAnswer, firstRoom, codedRooms, codedAnswers, Came, Routed}
 use Rattle.room.specs.declared.Changes.{Changes}
 use Rattle.room.specs.declared.RoomAnswer.the-variants.{Done, Refused as NotDone}
 use Rattle.room.specs.Mains.{Lending, lentTo, eventRoom, eventAnswer, answerBytes, roomHeard, answersHeard, mainsCauses, MainsLowest}
@@ -92,7 +92,7 @@ five-at events at =
     rw (byte 0 (at + 1) (omega arith), byte 1 (at + 2) (omega arith), byte 2 (at + 3) (omega arith), byte 3 (at + 4) (omega arith), byte 4 (at + 5) (omega arith))
 
 -- a room that is valid stays so, whatever is read
-coded-valid : (code : ℕ) (read : MessageRead) (room : Room) → roomOk room ≡ true → roomOk (codedRoom code read room) ≡ true
+pub coded-valid : (code : ℕ) (read : MessageRead) (room : Room) → roomOk room ≡ true → roomOk (codedRoom code read room) ≡ true
 coded-valid code read room ok = go (eqb code 1) read
   where
     go : (b : Bool) (r : MessageRead) → roomOk (pick b (readRoom r room) room) ≡ true
@@ -106,28 +106,23 @@ rooms-valid zero events room ok = ok
 rooms-valid (suc n) events room ok =
     rooms-valid n (drop 6 events) (firstRoom events room) (coded-valid (getD events 0 0) (messageIn (drop 1 events)) room ok)
 
--- after i events: what is still to come, from here, is all that was to come from the start
-pub record Turn (n : ℕ) (events table₀ answers₀ table answers : List ℕ) (i : ℕ) : Type 0 where
-  pub within : i ≤ n
-  pub ok : tableOk table ≡ true
-  pub wide : length answers ≡ length answers₀
-  pub rooms : codedRooms (n - i) (drop (6 * i) events) (roomOf table) ≡ codedRooms n events (roomOf table₀)
-  pub bytes : sets answers (8 * i) (codedAnswers (n - i) (drop (6 * i) events) (roomOf table))
-      ≡ sets answers₀ 0 (codedAnswers n events (roomOf table₀))
+-- ---- from one event on to another
 
-module _ (n : ℕ) (events table₀ answers₀ : List ℕ) where
-  pub turn-first : tableOk table₀ ≡ true → Turn n events table₀ answers₀ table₀ answers₀ 0
-  turn-first t =
-      let none : n - 0 ≡ n = omega arith in
-      record {
-        within = omega arith;
-        ok = t;
-        wide = refl;
-        rooms = ap (λ (k : ℕ). codedRooms k events (roomOf table₀)) none;
-        bytes = ap (λ (k : ℕ). sets answers₀ 0 (codedAnswers k events (roomOf table₀))) none;
-      }
+module _ (n : ℕ) (events : List ℕ) where
+  pub came-here : (room : Room) (answers : List ℕ) (i : ℕ) → i ≤ n → Came n events room answers i room answers i
+  came-here room answers i low = record { later = omega arith; within = low; wide = refl; rooms = refl; bytes = refl }
 
-  module _ (table answers : List ℕ) (i : ℕ) (now : Turn n events table₀ answers₀ table answers i) where
+  pub came-then : {room₁ room₂ room₃ : Room} {answers₁ answers₂ answers₃ : List ℕ} {i j k : ℕ}
+      → Came n events room₁ answers₁ i room₂ answers₂ j → Came n events room₂ answers₂ j room₃ answers₃ k → Came n events room₁ answers₁ i room₃ answers₃ k
+  came-then x y = record {
+    later = let p = x .later in let q = y .later in omega arith;
+    within = y .within;
+    wide = y .wide ∙ x .wide;
+    rooms = y .rooms ∙ x .rooms;
+    bytes = y .bytes ∙ x .bytes;
+  }
+
+  module _ (i : ℕ) (more : i < n) where
     -- what stands at the place of event i
     at-code : getD (drop (6 * i) events) 0 0 ≡ getD events (6 * i) 0
     at-code = let p : 6 * i + 0 ≡ 6 * i = omega arith in getD-drop (6 * i) events 0 0 ∙ ap (λ (k : ℕ). getD events k 0) p
@@ -138,59 +133,93 @@ module _ (n : ℕ) (events table₀ answers₀ : List ℕ) where
     at-rest : drop 6 (drop (6 * i) events) ≡ drop (6 * (i + 1)) events
     at-rest = let p : 6 * i + 6 ≡ 6 * (i + 1) = omega arith in drop-drop 6 (6 * i) events ∙ ap (λ (k : ℕ). drop k events) p
 
-    -- the first of what is still to come, and the rest
-    module _ (table′ answers′ : List ℕ) (a : ℕ) (more : i < n)
-        (answer : a ≡ codedAnswer (getD events (6 * i) 0) (messageIn (drop (6 * i + 1) events)) (roomOf table))
-        (room : roomOf table′ ≡ codedRoom (getD events (6 * i) 0) (messageIn (drop (6 * i + 1) events)) (roomOf table))
+    -- event i answered and applied
+    module _ (room room′ : Room) (answers answers′ : List ℕ) (a : ℕ)
+        (answer : a ≡ codedAnswer (getD events (6 * i) 0) (messageIn (drop (6 * i + 1) events)) room)
+        (applied : room′ ≡ codedRoom (getD events (6 * i) 0) (messageIn (drop (6 * i + 1) events)) room)
         (put : answers′ ≡ sets answers (8 * i) (answerBytes a)) where
       left : n - i ≡ suc (n - (i + 1))
       left = omega arith
 
-      stepped : roomOf table′ ≡ firstRoom (drop (6 * i) events) (roomOf table)
-      stepped = room ∙ sym (ap₂ (λ (c : ℕ) (l : List ℕ). codedRoom c (messageIn l) (roomOf table)) at-code at-message)
+      stepped : room′ ≡ firstRoom (drop (6 * i) events) room
+      stepped = applied ∙ sym (ap₂ (λ (c : ℕ) (l : List ℕ). codedRoom c (messageIn l) room) at-code at-message)
 
-      answered : a ≡ codedAnswer (getD (drop (6 * i) events) 0 0) (messageIn (drop 1 (drop (6 * i) events))) (roomOf table)
-      answered = answer ∙ sym (ap₂ (λ (c : ℕ) (l : List ℕ). codedAnswer c (messageIn l) (roomOf table)) at-code at-message)
+      answered : a ≡ codedAnswer (getD (drop (6 * i) events) 0 0) (messageIn (drop 1 (drop (6 * i) events))) room
+      answered = answer ∙ sym (ap₂ (λ (c : ℕ) (l : List ℕ). codedAnswer c (messageIn l) room) at-code at-message)
 
-      rooms-left : codedRooms (n - i) (drop (6 * i) events) (roomOf table) ≡ codedRooms (n - (i + 1)) (drop (6 * (i + 1)) events) (roomOf table′)
+      rooms-left : codedRooms (n - i) (drop (6 * i) events) room ≡ codedRooms (n - (i + 1)) (drop (6 * (i + 1)) events) room′
       unfolding codedRooms
       rooms-left =
-          ap (λ (k : ℕ). codedRooms k (drop (6 * i) events) (roomOf table)) left
+          ap (λ (k : ℕ). codedRooms k (drop (6 * i) events) room) left
           ∙ ap₂ (λ (l : List ℕ) (r : Room). codedRooms (n - (i + 1)) l r) at-rest (sym stepped)
 
-      bytes-left : codedAnswers (n - i) (drop (6 * i) events) (roomOf table)
-          ≡ answerBytes a ++ codedAnswers (n - (i + 1)) (drop (6 * (i + 1)) events) (roomOf table′)
+      bytes-left : codedAnswers (n - i) (drop (6 * i) events) room ≡ answerBytes a ++ codedAnswers (n - (i + 1)) (drop (6 * (i + 1)) events) room′
       unfolding codedAnswers
       bytes-left =
-          ap (λ (k : ℕ). codedAnswers k (drop (6 * i) events) (roomOf table)) left
+          ap (λ (k : ℕ). codedAnswers k (drop (6 * i) events) room) left
           ∙ ap₂ (λ (x : ℕ) (l : List ℕ). answerBytes x ++ l) (sym answered)
           (ap₂ (λ (l : List ℕ) (r : Room). codedAnswers (n - (i + 1)) l r) at-rest (sym stepped))
 
-      pub turn-next : Turn n events table₀ answers₀ table′ answers′ (i + 1)
-      turn-next = record {
+      pub came-one : Came n events room answers i room′ answers′ (i + 1)
+      came-one = record {
+        later = omega arith;
         within = omega arith;
-        ok = ap roomOk room ∙ coded-valid (getD events (6 * i) 0) (messageIn (drop (6 * i + 1) events)) (roomOf table) (now .ok);
-        wide = ap length put ∙ length-sets answers (8 * i) (answerBytes a) ∙ now .wide;
-        rooms = sym rooms-left ∙ now .rooms;
+        wide = ap length put ∙ length-sets answers (8 * i) (answerBytes a);
+        rooms = sym rooms-left;
         bytes =
-            let rest : List ℕ = codedAnswers (n - (i + 1)) (drop (6 * (i + 1)) events) (roomOf table′) in
+            let rest : List ℕ = codedAnswers (n - (i + 1)) (drop (6 * (i + 1)) events) room′ in
             let place : 8 * (i + 1) ≡ 8 * i + 8 = omega arith in
             ap₂ (λ (l : List ℕ) (k : ℕ). sets l k rest) put place
             ∙ sym (sets-append answers (8 * i) (answerBytes a) rest)
-            ∙ ap (sets answers (8 * i)) (sym bytes-left)
-            ∙ now .bytes;
+            ∙ ap (sets answers (8 * i)) (sym bytes-left);
       }
 
-    pub turn-long : tableOk table₀ ≡ true → length table ≡ length table₀
-    turn-long t = whole table (now .ok) .size ∙ sym (whole table₀ t .size)
+    -- an event that is no MESSAGE
+    pub came-none : (room : Room) (answers answers′ : List ℕ) → eqb (getD events (6 * i) 0) 1 ≡ false → answers′ ≡ sets answers (8 * i) (answerBytes 0)
+        → Came n events room answers i room answers′ (i + 1)
+    came-none room answers answers′ none put = came-one room room answers answers′ 0 (rw none) (rw none) put
 
-    pub turn-last : (i < n → ⊥) → (roomOf table ≡ codedRooms n events (roomOf table₀)) × (answers ≡ sets answers₀ 0 (codedAnswers n events (roomOf table₀)))
-    unfolding codedRooms codedAnswers
-    turn-last stop =
-        let none : n - i ≡ 0 = let w = now .within in omega arith in (
-          sym (ap (λ (k : ℕ). codedRooms k (drop (6 * i) events) (roomOf table)) none) ∙ now .rooms,
-          sym (ap (λ (k : ℕ). sets answers (8 * i) (codedAnswers k (drop (6 * i) events) (roomOf table))) none) ∙ now .bytes,
-        )
+  -- all of them
+  pub came-all : {room₁ room₂ : Room} {answers₁ answers₂ : List ℕ} {j : ℕ} → j ≡ n → Came n events room₁ answers₁ 0 room₂ answers₂ j
+      → (room₂ ≡ codedRooms n events room₁) × (answers₂ ≡ sets answers₁ 0 (codedAnswers n events room₁))
+  unfolding codedRooms codedAnswers
+  came-all {room₁} {room₂} {answers₁} {answers₂} {j} end x =
+      let none : n - j ≡ 0 = omega arith in
+      let all : n - 0 ≡ n = omega arith in (
+        sym (ap (λ (k : ℕ). codedRooms k (drop (6 * j) events) room₂) none) ∙ x .rooms ∙ ap (λ (k : ℕ). codedRooms k events room₁) all,
+        sym (ap (λ (k : ℕ). sets answers₂ (8 * j) (codedAnswers k (drop (6 * j) events) room₂)) none)
+            ∙ x .bytes
+            ∙ ap (λ (k : ℕ). sets answers₁ 0 (codedAnswers k events room₁)) all,
+      )
+
+-- four tests of which none holds
+none-of-four : (a b c d : Bool) → (a || (b || (c || d))) ≡ false → (a ≡ false) × (b ≡ false) × (c ≡ false) × (d ≡ false)
+none-of-four false false false false e = (refl, refl, refl, refl)
+none-of-four true b c d e = absurd (false≢true (sym e))
+none-of-four false true c d e = absurd (false≢true (sym e))
+none-of-four false false true d e = absurd (false≢true (sym e))
+none-of-four false false false true e = absurd (false≢true (sym e))
+
+module _ (n : ℕ) (events : List ℕ) (room : Room) where
+  -- the same by the place of the event's code and of the event after it
+  came-past : (i j place : ℕ) (answers answers′ : List ℕ) → i < n → j ≡ i + 1 → place ≡ 6 * i → eqb (getD events place 0) 1 ≡ false
+      → answers′ ≡ sets answers (8 * i) (answerBytes 0) → Came n events room answers i room answers′ j
+  came-past i j place answers answers′ more next at none put =
+      subst (λ (k : ℕ). Came n events room answers i room answers′ k) (sym next)
+      (came-none n events i more room answers answers′ (ap (λ (k : ℕ). eqb (getD events k 0) 1) (sym at) ∙ none) put)
+
+  -- four events of which none is a MESSAGE
+  pub came-four : (i : ℕ) (a b c d e : List ℕ) → i + 4 ≤ n
+      → (eqb (getD events (6 * i) 0) 1
+      || (eqb (getD events (6 * i + 6) 0) 1 || (eqb (getD events (6 * i + 12) 0) 1 || eqb (getD events (6 * i + 18) 0) 1))) ≡ false
+      → b ≡ sets a (8 * i) (answerBytes 0) → c ≡ sets b (8 * (i + 1)) (answerBytes 0)
+      → d ≡ sets c (8 * (i + 2)) (answerBytes 0) → e ≡ sets d (8 * (i + 3)) (answerBytes 0) → Came n events room a i room e (i + 4)
+  came-four i a b c d e within none p q r s =
+      let none′ = none-of-four (eqb (getD events (6 * i) 0) 1) _ _ _ none in
+      came-then n events (came-past i (i + 1) (6 * i) a b (omega arith) refl refl (none′ .0) p)
+      (came-then n events (came-past (i + 1) (i + 2) (6 * i + 6) b c (omega arith) (omega arith) (omega arith) (none′ .1) q)
+      (came-then n events (came-past (i + 2) (i + 3) (6 * i + 12) c d (omega arith) (omega arith) (omega arith) (none′ .2) r)
+      (came-past (i + 3) (i + 4) (6 * i + 18) d e (omega arith) (omega arith) (omega arith) (none′ .3) s)))
 
 -- ---- the bytes of events
 

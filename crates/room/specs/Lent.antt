@@ -1,10 +1,11 @@
 -- What the private routines over lent bytes promise beside the definitions of 01's section: one record stepped where it lies, and events
 -- read back from their bytes.
-use Prim.Native.Nat.{ℕ, zero, suc, _≤_}
+use Prim.Native.Nat.{ℕ, zero, suc, _-_, _*_, _≤_}
 use mathlib.Core.Path.{_≡_}
 use mathlib.Core.List.{List, [], _++_}
 use lib.Dec.{eqb}
-use lib.ListN.{getD, drop}
+use lib.ListN.{length, getD, drop}
+use lib.Seq.{sets}
 use Rattle.ground.specs.Choice.{pick}
 use Rattle.ground.specs.Refusals.{judged}
 use Rattle.wire.specs.Messages.{messageIn}
@@ -54,6 +55,15 @@ unfoldable pub codedAnswers : ℕ → List ℕ → Room → List ℕ
 codedAnswers zero bytes room = []
 codedAnswers (suc n) bytes room =
     answerBytes (codedAnswer (getD bytes 0 0) (messageIn (drop 1 bytes)) room) ++ codedAnswers n (drop 6 bytes) (firstRoom bytes room)
+
+-- from event i on to event j: what is still to come of n events, from there, is all that was to come
+pub record Came (n : ℕ) (events : List ℕ) (roomThen : Room) (answersThen : List ℕ) (i : ℕ) (room : Room) (answers : List ℕ) (j : ℕ) : Type 0 where
+  pub later : i ≤ j
+  pub within : j ≤ n
+  pub wide : length answers ≡ length answersThen
+  pub rooms : codedRooms (n - j) (drop (6 * j) events) room ≡ codedRooms (n - i) (drop (6 * i) events) roomThen
+  pub bytes : sets answers (8 * j) (codedAnswers (n - j) (drop (6 * j) events) room)
+      ≡ sets answersThen (8 * i) (codedAnswers (n - i) (drop (6 * i) events) roomThen)
 
 -- the mains route once the room, the receiver and the answers' buffer are judged: what is left of its causes is room for the events
 pub record Routed (l : Lending) (room : Room) (answer : RoomAnswer) (lentThen : Lending) (roomThen : Room) : Type 0 where

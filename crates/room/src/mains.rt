@@ -25,9 +25,9 @@ ghost use Rattle.ground.specs.Choice.{pick};
 ghost use Rattle.record.specs.Layout.{RECORDS, TABLE-BYTES, recordAt};
 ghost use Rattle.record.specs.ModuleTable.{tableOk, changed};
 ghost use Rattle.wire.specs.Messages.{messageFrom, messageIn};
-ghost use Rattle.room.specs.Rooms.{roomOf, changes, roomReport};
+ghost use Rattle.room.specs.Rooms.{Room, roomOf, changes, roomReport};
 ghost use Rattle.wire.specs.Receivers.{holdsReceiver};
-ghost use Rattle.room.specs.Lent.{codedAnswer, codedRoom, codedRooms, codedAnswers, Routed};
+ghost use Rattle.room.specs.Lent.{codedAnswer, codedRoom, codedRooms, codedAnswers, Came, Routed};
 ghost use Rattle.room.specs.Mains.{answerBytes, lentTo, mainsAnswer, mainsReport, mainsAfter, lentAfter};
 
 // The level of each module.
@@ -123,29 +123,81 @@ fn answer_at(table: &mut [u8], events: &[u8], at: usize) -> u64
     )
 }
 
-// Applies the messages of the first n events, in their order, and puts what the table answered to each.
-fn apply_events(table: &mut [u8], events: &[u8], n: usize, answers: &mut [u8])
-    requires { ⌜ (tableOk (now table) ≡ true) × (6 * n ≤ length (now events)) × (8 * n ≤ length (now answers)) ⌝ }
-    ensures { λ _. ⌜ roomOf (now (table .exit)) ≡ codedRooms n (now (events .entry)) (roomOf (now (table .entry))) ⌝ }
-    ensures { λ _. ⌜ now (answers .exit) ≡ sets (now (answers .entry)) 0 (codedAnswers n (now (events .entry)) (roomOf (now (table .entry)))) ⌝ }
+// Puts the answer 0 to the events from a place on, four at a time, up to where one of four is MESSAGE or fewer are left.
+fn skip_fours(events: &[u8], from: usize, n: usize, answers: &mut [u8]) -> usize
+    requires { ⌜ (from ≤ n) × (6 * n ≤ length (now events)) × (8 * n ≤ length (now answers)) ⌝ }
+    ensures { λ r. ⌜ ((room : Room) → Came n (now (events .entry)) room (now (answers .entry)) from room (now (answers .exit)) r) ⌝ }
 {
-    let mut i: usize = 0;
+    let mut i = from;
+    while i + 4 <= n {
+        let at = 6 * i;
+        if (events[at] == 1)
+            | ((events[at + 6] == 1) | ((events[at + 12] == 1) | (events[at + 18] == 1)))
+        {
+            return i;
+        }
+        put_answer(answers, 8 * i, 0);
+        put_answer(answers, 8 * (i + 1), 0);
+        put_answer(answers, 8 * (i + 2), 0);
+        put_answer(answers, 8 * (i + 3), 0);
+        i += 4;
+    }
+    i
+}
+
+// The same one at a time, up to a MESSAGE or the end.
+fn skip_ones(events: &[u8], from: usize, n: usize, answers: &mut [u8]) -> usize
+    requires { ⌜ (from ≤ n) × (6 * n ≤ length (now events)) × (8 * n ≤ length (now answers)) ⌝ }
+    ensures { λ r. ⌜ ((room : Room) → Came n (now (events .entry)) room (now (answers .entry)) from room (now (answers .exit)) r) ⌝ }
+{
+    let mut i = from;
+    while i < n {
+        if events[6 * i] == 1 {
+            return i;
+        }
+        put_answer(answers, 8 * i, 0);
+        i += 1;
+    }
+    i
+}
+
+// The place of the first MESSAGE from a place on, or n; the events before it are answered 0.
+fn next_message(events: &[u8], from: usize, n: usize, answers: &mut [u8]) -> usize
+    requires { ⌜ (from ≤ n) × (6 * n ≤ length (now events)) × (8 * n ≤ length (now answers)) ⌝ }
+    ensures { λ r. ⌜ ((room : Room) → Came n (now (events .entry)) room (now (answers .entry)) from room (now (answers .exit)) r) ⌝ }
+{
+    let i = skip_fours(events, from, n, answers);
+    skip_ones(events, i, n, answers)
+}
+
+// Applies the messages of the events from a place on, in their order, and puts what the table answered to each.
+fn apply_events(table: &mut [u8], events: &[u8], from: usize, n: usize, answers: &mut [u8])
+    requires { ⌜ (tableOk (now table) ≡ true) × (from ≤ n) × (6 * n ≤ length (now events)) × (8 * n ≤ length (now answers)) ⌝ }
+    ensures { λ _.
+        ⌜ Came n (now (events .entry)) (roomOf (now (table .entry))) (now (answers .entry)) from (roomOf (now (table .exit))) (now (answers .exit)) n ⌝ }
+{
+    let mut i = from;
     while i < n {
         let answer = answer_at(table, events, 6 * i);
         put_answer(answers, 8 * i, answer);
-        i += 1;
+        i = next_message(events, i + 1, n, answers);
     }
 }
 
-// Applies the messages of the first n events, and answers how many modules have another level than before.
+// Applies the messages of the first n events, and answers how many modules have another level than before. The levels are kept only
+// where there is a message.
 fn heed(table: &mut [u8], events: &[u8], n: usize, answers: &mut [u8]) -> Changes
     requires { ⌜ (tableOk (now table) ≡ true) × (6 * n ≤ length (now events)) × (8 * n ≤ length (now answers)) ⌝ }
     ensures { λ r. ⌜ r ≡ changes (roomOf (now (table .entry))) (roomOf (now (table .exit))) ⌝ }
     ensures { λ _. ⌜ roomOf (now (table .exit)) ≡ codedRooms n (now (events .entry)) (roomOf (now (table .entry))) ⌝ }
     ensures { λ _. ⌜ now (answers .exit) ≡ sets (now (answers .entry)) 0 (codedAnswers n (now (events .entry)) (roomOf (now (table .entry)))) ⌝ }
 {
+    let first = next_message(events, 0, n, answers);
+    if first == n {
+        return Changes { levels: 0 };
+    }
     let levels = levels_in(table);
-    apply_events(table, events, n, answers);
+    apply_events(table, events, first, n, answers);
     Changes {
         levels: changed_from(levels, table),
     }

@@ -1,53 +1,83 @@
--- `apply_events` meets its contract. The loop's invariant, Turn: what is still to come is all that was to come from the start.
-use mathlib.Core.Path.{_∙_}
-use Prim.Native.Nat.{_-_}
+-- `apply_events` meets its contract. The loop's invariant: what is still to come of the events is all that was to come, and the table is valid.
+use mathlib.Core.Path.{_≡_, sym, ap, subst, _∙_}
+use mathlib.Core.Bool.{true}
+use mathlib.Core.List.{[]}
+use Prim.Native.Nat.{ℕ, _+_, _-_, _*_}
 use native.Mathlib.Omega.{arith}
-use Rattle.room.proofs.MainsLaws.{Turn, turn-first, turn-next, turn-long, turn-last}
+use lib.ListN.{length, getD, drop}
+use lib.Seq.{length-sets}
+use Rattle.record.specs.ModuleTable.{tableOk}
+use Rattle.room.specs.Rooms.{roomOf, roomOk}
+use Rattle.wire.specs.Messages.{messageIn}
+use Rattle.room.specs.Lent.{Came}
+use Rattle.room.specs.Mains.{answerBytes}
+use Rattle.room.proofs.HouseLaws.{whole}
+use Rattle.room.proofs.MainsLaws.{coded-valid, came-here, came-then, came-one}
 use Rattle.room.proofs.mains.apply_events.Statement.{statement}
 use Rattle.room.proofs.mains.apply_events.Tie as tie
 
 abbrev Inv-loop : tie.InvT-loop
-Inv-loop table₀ events n answers₀ i₀ table answers i = Turn n events table₀ answers₀ table answers i
+Inv-loop table₀ events from n answers₀ i₀ table answers i = (tableOk table ≡ true) × Came n events (roomOf table₀) answers₀ from (roomOf table) answers i
 
 abbrev μ-loop : tie.MeasureT-loop
-μ-loop table₀ events n answers₀ i₀ table answers i = n - i
+μ-loop table₀ events from n answers₀ i₀ table answers i = n - i
 
 loop-holds : tie.Need-loop-holds Inv-loop μ-loop
-loop-holds c = turn-first _ _ _ _ (c .before .before .before .pre .0)
+loop-holds c =
+    let start = c .before .before .before in
+    (start .pre .0, came-here _ _ _ _ _ (start .pre .1))
 
 mul-answer-at : tie.Need-mul-answer-at Inv-loop μ-loop
 mul-answer-at c = omega arith
 
 answer-at-requires : tie.Need-answer-at-requires Inv-loop μ-loop
-answer-at-requires c κs = (c .before .before .loop .inv .ok, omega arith)
+answer-at-requires c κs = (c .before .before .loop .inv .0, omega arith)
 
 mul-put-answer : tie.Need-mul-put-answer Inv-loop μ-loop
 mul-put-answer c = omega arith
 
 put-answer-requires : tie.Need-put-answer-requires Inv-loop μ-loop
-put-answer-requires c κs = omega (arith, c .before .before .before .before .before .before .loop .inv .wide)
+put-answer-requires c κs = omega (arith, c .before .before .before .before .before .before .loop .inv .1 .wide)
 
-add-i : tie.Need-add-i Inv-loop μ-loop
-add-i c = omega arith
+add-next-message : tie.Need-add-next-message Inv-loop μ-loop
+add-next-message c = omega arith
+
+next-message-requires : tie.Need-next-message-requires Inv-loop μ-loop
+next-message-requires c κs =
+    let start = c .before .before .before .before .before .before .before .before .before .before .before .before .before .before in
+    let loop = c .before .before .before .before .before .before .before .before .before .before .loop in
+    let put = ap length (c .before .before .before .put-answer .ensures) in
+    let same = length-sets (loop .answers) (8 * loop .i) (answerBytes (c .before .before .before .before .before .before .before .answer-at .result)) in
+    (omega arith, start .pre .2, omega (arith, put, same, loop .inv .1 .wide, start .pre .3))
 
 loop-less : tie.Need-loop-less Inv-loop μ-loop
-loop-less c = omega arith
+loop-less c = omega (arith, c .before .before .next-message .ensures (roomOf []) .later, c .before .before .next-message .ensures (roomOf []) .within)
 
 loop-again : tie.Need-loop-again Inv-loop μ-loop
 loop-again c =
-    let turn = c .before .before .before .before .before .before .before .before .before .loop in
-    let answered = c .before .before .before .before .before .before .answer-at in
-    turn-next _ _ _ _ _ _ _ (turn .inv) _ _ (answered .result) (c .before .before .before .before .before .before .before .before .loop-test .taken)
-    (answered .ensures .0) (answered .ensures .1) (c .before .before .put-answer .ensures)
+    let next = c .before .before .next-message in
+    let put = c .before .before .before .before .before .before .put-answer in
+    let answered = c .before .before .before .before .before .before .before .before .before .before .answer-at in
+    let loop = c .before .before .before .before .before .before .before .before .before .before .before .before .before .loop in
+    let events = c .before .before .before .before .before .before .before .before .before .before .before .before .before .before .before .before .before .args .events .now in
+    let one = came-one _ events (loop .i) (c .before .before .before .before .before .before .before .before .before .before .before .before .loop-test .taken) _ _ _ _ (answered .result) (answered .ensures .0) (answered .ensures .1) (put .ensures) in (
+      ap roomOk (answered .ensures .1) ∙ coded-valid (getD events (6 * loop .i) 0) (messageIn (drop (6 * loop .i + 1) events)) (roomOf (loop .table)) (loop .inv .0),
+      came-then _ events (loop .inv .1) (came-then _ events one (next .ensures _)),
+    )
 
 same-length : tie.Need-same-length Inv-loop μ-loop
-same-length c = turn-long _ _ _ _ _ _ _ (c .before .loop .inv) (c .before .before .before .before .before .pre .0)
+same-length c = whole _ (c .before .loop .inv .0) .size ∙ sym (whole _ (c .before .before .before .before .before .pre .0) .size)
 
 same-length-2 : tie.Need-same-length-2 Inv-loop μ-loop
-same-length-2 c = c .before .loop .inv .wide
+same-length-2 c = c .before .loop .inv .1 .wide
 
 returns : tie.Need-returns Inv-loop μ-loop
-returns c = turn-last _ _ _ _ _ _ _ (c .before .loop .inv) (λ h. omega (arith, h, c .loop-test .left))
+returns c =
+    let loop = c .before .loop in
+    let a = c .before .before .before .before .before .args in
+    let came = loop .inv .1 in
+    let end : loop .i ≡ a .n = let low = came .within in omega arith in
+    subst (λ (k : ℕ). Came (a .n) (a .events .now) (roomOf (a .table .now)) (a .answers .now) (a .from) (roomOf (loop .table)) (loop .answers) k) end came
 
 pub apply-events-spec : {M : Type 1} → statement M
 apply-events-spec =
@@ -60,7 +90,8 @@ apply-events-spec =
     answer-at-requires
     mul-put-answer
     put-answer-requires
-    add-i
+    add-next-message
+    next-message-requires
     loop-less
     loop-again
     same-length
