@@ -62,8 +62,7 @@ returns-2 c =
     let at = start .args .at in
     let did = c .before .before .answer-to .ensures in
     let room = roomOf (start .args .table .now) in
-    let five = five-at events at in
-    (
+    let five = five-at events at in (
       did .0 ∙ ap (λ (r : MessageRead). codedAnswer (getD events at 0) r room) five,
       did .1 ∙ ap (λ (r : MessageRead). codedRoom (getD events at 0) r room) five,
     )
