@@ -1,6 +1,8 @@
 // X-10 messages: what a press becomes, before it is half-cycles on the mains or bytes by radio.
+use crate::codes::function_code;
 ghost use mathlib.Core.Path.{_≡_};
-ghost use Rattle.message.specs.Messages.{messageOk};
+ghost use Rattle.message.specs.Messages.{messageOk, sameMessage};
+ghost use Rattle.message.specs.declared.Message.the-variants.{Address, Function as Command, Extended};
 
 pub mod codes;
 pub mod word;
@@ -53,5 +55,75 @@ pub fn valid(m: Message) -> bool
             data: _,
             command: _,
         } => (house <= 15) & (unit <= 15),
+    }
+}
+
+// Whether two messages are one and the same.
+pub fn same(a: Message, b: Message) -> bool
+    ensures { λ r. ⌜ r ≡ sameMessage a b ⌝ }
+{
+    match a {
+        Message::Address { house, unit } => same_address(house, unit, b),
+        Message::Function { house, function } => same_function(house, function, b),
+        Message::Extended {
+            house,
+            unit,
+            data,
+            command,
+        } => same_extended(house, unit, data, command, b),
+    }
+}
+
+fn same_address(house: u8, unit: u8, m: Message) -> bool
+    ensures { λ r. ⌜ r ≡ sameMessage (Address house unit) m ⌝ }
+{
+    match m {
+        Message::Address { house: h, unit: u } => (house == h) & (unit == u),
+        Message::Function {
+            house: _,
+            function: _,
+        } => false,
+        Message::Extended {
+            house: _,
+            unit: _,
+            data: _,
+            command: _,
+        } => false,
+    }
+}
+
+fn same_function(house: u8, function: Function, m: Message) -> bool
+    ensures { λ r. ⌜ r ≡ sameMessage (Command house function) m ⌝ }
+{
+    match m {
+        Message::Address { house: _, unit: _ } => false,
+        Message::Function {
+            house: h,
+            function: f,
+        } => (house == h) & (function_code(function) == function_code(f)),
+        Message::Extended {
+            house: _,
+            unit: _,
+            data: _,
+            command: _,
+        } => false,
+    }
+}
+
+fn same_extended(house: u8, unit: u8, data: u8, command: u8, m: Message) -> bool
+    ensures { λ r. ⌜ r ≡ sameMessage (Extended house unit «data» command) m ⌝ }
+{
+    match m {
+        Message::Address { house: _, unit: _ } => false,
+        Message::Function {
+            house: _,
+            function: _,
+        } => false,
+        Message::Extended {
+            house: h,
+            unit: u,
+            data: d,
+            command: c,
+        } => (house == h) & (unit == u) & (data == d) & (command == c),
     }
 }

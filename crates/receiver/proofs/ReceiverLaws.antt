@@ -5,9 +5,8 @@
 --     at-most, valid-parts               what holds of a receiver that is not refused
 --     nineOk, nine-ok                    what nine bits say, judged by their numbers; one computed test over the table of meanings
 --     read-nine, read-all, last-code     a complete frame's bits are not refused
---     repeat-self, repeat-is-equal       a valid message is its own repeat, and no other's: RepeatIsEqual
 --     lowest-first, fresh-is-valid, stays-valid, gives-valid      LowestFirst, FreshIsValid, StaysValid and GivesValid
-use mathlib.Core.Path.{_≡_, refl, sym, ap, ap₂, subst, _∙_}
+use mathlib.Core.Path.{_≡_, refl, sym, ap, _∙_}
 use mathlib.Core.Bool.{Bool, true, false, false≢true, _&&_, not, and-eq-true-iff, and-false}
 use Prim.Native.Nat.{ℕ, _+_, _-_, _*_, _/_, _%_, _^_, _≤_, _<_}
 use native.Mathlib.Omega.{arith}
@@ -20,18 +19,14 @@ use Rattle.ground.specs.Refusals.{refusalNumber, judged}
 use Rattle.ground.specs.declared.Refusal.{Refusal}
 use Rattle.ground.specs.declared.Refusal.the-variants as refusal
 use Rattle.ground.proofs.Causes.{judged-map, lowest-given}
-use Rattle.ground.proofs.Choices.{both}
 use Rattle.message.specs.Codes.{numberOf, meaningOf, meanings}
 use Rattle.message.specs.Messages.{messageOk}
-use Rattle.message.specs.Words.{wordOf, wordIn, wordAnswer, bitCount, functionReading, standardOf, extendedOf, standardAnswer, extendedAnswer}
+use Rattle.message.specs.Words.{functionReading, standardOf, extendedOf, standardAnswer, extendedAnswer}
 use Rattle.message.specs.declared.Message.{Message}
-use Rattle.message.specs.declared.word.Word.{Word}
-use Rattle.message.specs.declared.word.WordAnswer.the-variants.{Word as Bits}
 use Rattle.message.specs.declared.word.Reading.{Reading}
 use Rattle.message.specs.declared.word.Reading.the-variants.{Message as Says, Longer, Unsupported, Refused as NotRead}
 use Rattle.message.proofs.Tables.{every-at}
 use Rattle.message.proofs.CodeLaws.{number-below}
-use Rattle.message.proofs.WordLaws.{words-one-to-one}
 use Rattle.receiver.specs.declared.Given.{Given}
 use Rattle.receiver.specs.declared.Given.the-variants.{No, Yes}
 use Rattle.receiver.specs.declared.Receiver.{Receiver}
@@ -40,7 +35,7 @@ use Rattle.receiver.specs.declared.Event.the-variants.{Nothing, Message 
 use Rattle.receiver.specs.declared.Heard.{Heard}
 use Rattle.receiver.specs.Receivers.{shifted, hunting, says, huntOf, awaitOf, isRepeat, completeOf, outcomeOf, pairOf, bitsAfter, readOf, takesOf}
 use Rattle.receiver.specs.Receivers.{eventNumber, pairsOk, givenOk, receiverOk, stepCauses, stepOf, unsupportedCode, brokenNumber}
-use Rattle.receiver.specs.Receivers.{LowestFirst, FreshIsValid, StaysValid, RepeatIsEqual, GivesValid}
+use Rattle.receiver.specs.Receivers.{LowestFirst, FreshIsValid, StaysValid, GivesValid}
 
 -- ---- the ways in which a half-cycle is taken
 
@@ -292,25 +287,6 @@ standard-ok w = reads-ok (eqb (w % 2) 1) (w / 2 % 16) (standardOf w) (nine-ok w)
 
 extended-ok : (w : ℕ) → messageOk (extendedOf w) ≡ true
 extended-ok w = simp (number-ok (w / 2 ^ 25), number-ok (w / 2 ^ 16))
-
--- ---- a repeat
-
-has-bits : (m : Message) → messageOk m ≡ true → wordAnswer m ≡ Bits (wordIn m)
-unfolding wordAnswer judged
-has-bits m ok = rw ok
-
-pub repeat-self : (m : Message) → messageOk m ≡ true → isRepeat (Yes m) m ≡ true
-repeat-self m ok = rw (has-bits m ok) (both (eq-eqb (bitCount m) (bitCount m) refl) (eq-eqb (wordOf m) (wordOf m) refl))
-
-pub repeat-is-equal : RepeatIsEqual
-repeat-is-equal g m og bg om bm = (to, λ e. subst (λ (n : Message). isRepeat (Yes g) n ≡ true) e (repeat-self g og))
-  where
-    to : isRepeat (Yes g) m ≡ true → g ≡ m
-    to t =
-        let same = and-eq-true-iff (eqb (bitCount g) (bitCount m)) (eqb (wordOf g) (wordOf m)) .0 (rw (has-bits g og, has-bits m om) at t) in
-        let counts = eqb-true (bitCount g) (bitCount m) (same .0) in
-        let words = eqb-true (wordOf g) (wordOf m) (same .1) in
-        words-one-to-one g m og bg om bm (ap₂ {C = Word} (λ (b k : ℕ). record { bits = b; count = k }) words counts)
 
 complete-gives : (given : Given) (m : Message) (past : ℕ) → messageOk m ≡ true → givesOk (completeOf given m past .event) ≡ true
 unfolding completeOf

@@ -1,17 +1,14 @@
 -- The receiver (01, 'The receiver', 'Numbers given back'): what each half-cycle says, and where the receiver then stands.
 use Prim.Native.Nat.{ℕ, _+_, _-_, _*_, _/_, _%_, _^_}
 use mathlib.Core.Path.{_≡_}
-use mathlib.Core.Logic.{_↔_}
 use mathlib.Core.Bool.{Bool, true, false, _&&_, _||_}
 use mathlib.Core.List.{List, [], _∷_}
 use lib.Dec.{eqb, leb}
 use Rattle.ground.specs.Choice.{pick}
 use Rattle.ground.specs.Refusals.{refusalNumber, Cause, unless, judged, numberGiven, lowest}
 use Rattle.ground.specs.declared.Refusal.the-variants as refusal
-use Rattle.message.specs.Messages.{messageOk, BytesOk}
-use Rattle.message.specs.Words.{wordAnswer, standardOf, extendedOf}
-use Rattle.message.specs.declared.word.WordAnswer.{WordAnswer}
-use Rattle.message.specs.declared.word.WordAnswer.the-variants.{Word as Bits, Refused as NoBits}
+use Rattle.message.specs.Messages.{messageOk, sameMessage}
+use Rattle.message.specs.Words.{standardOf, extendedOf}
 use Rattle.message.specs.declared.Message.{Message}
 use Rattle.message.specs.declared.word.Reading.{Reading}
 use Rattle.message.specs.declared.word.Reading.the-variants.{Message as Says, Longer, Unsupported, Refused as NotRead}
@@ -75,15 +72,10 @@ awaitOf r h =
     (says Nothing (record { past = shifted (r .past) h; at = r .at + 1; bits = 0; given = r .given }))
     (huntOf (r .past) h)
 
--- "equal to the one just given": the same bits in as many pairs
-abbrev pub sameBits : WordAnswer → WordAnswer → Bool
-sameBits (Bits v) (Bits w) = eqb (v .count) (w .count) && eqb (v .bits) (w .bits)
-sameBits (Bits v) (NoBits why) = false
-sameBits (NoBits why) other = false
-
+-- "equal to the one just given"
 abbrev pub isRepeat : Given → Message → Bool
 isRepeat No m = false
-isRepeat (Yes g) m = sameBits (wordAnswer g) (wordAnswer m)
+isRepeat (Yes g) m = sameMessage g m
 
 -- "A complete frame gives MESSAGE", and four more half-cycles are awaited; "equal to the one just given, it gives REPEAT and hunting follows"
 unfoldable pub completeOf : Given → Message → ℕ → Heard
@@ -157,11 +149,6 @@ FreshIsValid = receiverOk freshReceiver ≡ true
 
 abbrev pub StaysValid : Type 0
 StaysValid = (r : Receiver) (h : ℕ) → receiverOk r ≡ true → receiverOk (stepOf r h .next) ≡ true
-
--- of two valid messages, one is the other's repeat exactly where they are equal
-abbrev pub RepeatIsEqual : Type 0
-RepeatIsEqual =
-    (g m : Message) → messageOk g ≡ true → BytesOk g → messageOk m ≡ true → BytesOk m → (isRepeat (Yes g) m ≡ true) ↔ (g ≡ m)
 
 -- every message given has house and unit 0 to 15
 abbrev pub GivesValid : Type 0

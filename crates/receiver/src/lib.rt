@@ -1,11 +1,10 @@
 // The receiver: reads the mains back, one call per half-cycle.
 use ground::Refusal;
 use message::Message;
+use message::same;
 use message::word::Reading;
-use message::word::WordAnswer;
 use message::word::read_extended;
 use message::word::read_standard;
-use message::word::word_of;
 ghost use mathlib.Core.Path.{_≡_};
 ghost use mathlib.Core.Bool.{true};
 ghost use Prim.Native.Nat.{_≤_, _/_, _%_, _^_};
@@ -13,7 +12,7 @@ ghost use lib.Dec.{leb};
 ghost use Rattle.ground.specs.Choice.{pick};
 ghost use Rattle.ground.specs.Refusals.{refusalNumber, judged};
 ghost use Rattle.receiver.specs.Receivers.{eventNumber, freshReceiver, pairsOk, givenOk, receiverOk, stepCauses, stepOf, brokenNumber};
-ghost use Rattle.receiver.specs.Receivers.{shifted, hunting, says, huntOf, awaitOf, sameBits, isRepeat, completeOf, readingOf, pairOf, readOf, takesOf};
+ghost use Rattle.receiver.specs.Receivers.{shifted, hunting, says, huntOf, awaitOf, isRepeat, completeOf, readingOf, pairOf, readOf, takesOf};
 
 // The message given with the frame before, if it is its repeat that may come next.
 pub enum Given {
@@ -198,26 +197,13 @@ fn awaits(r: Receiver, half: u8) -> Heard
     )
 }
 
-// Whether two frames carry the same bits.
-fn same_bits(one: WordAnswer, other: WordAnswer) -> bool
-    ensures { λ b. ⌜ b ≡ sameBits one other ⌝ }
-{
-    match one {
-        WordAnswer::Word(v) => match other {
-            WordAnswer::Word(w) => (v.count == w.count) & (v.bits == w.bits),
-            WordAnswer::Refused(_) => false,
-        },
-        WordAnswer::Refused(_) => false,
-    }
-}
-
 // Whether a message is the one just given.
 fn is_repeat(given: Given, m: Message) -> bool
     ensures { λ b. ⌜ b ≡ isRepeat given m ⌝ }
 {
     match given {
         Given::No => false,
-        Given::Yes(g) => same_bits(word_of(g), word_of(m)),
+        Given::Yes(g) => same(g, m),
     }
 }
 

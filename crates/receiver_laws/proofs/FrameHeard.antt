@@ -19,8 +19,8 @@ use Rattle.ground.specs.Choice.{pick}
 use Rattle.message.specs.Messages.{messageOk}
 use Rattle.message.specs.Words.{wordOf}
 use Rattle.message.specs.declared.Message.{Message}
+use Rattle.message.proofs.CodeLaws.{same-is-equal}
 use Rattle.burst.specs.Frames.{bitsOf, pairsOf, frameOf}
-use Rattle.receiver.proofs.ReceiverLaws.{repeat-self}
 use Rattle.receiver.specs.Receivers.{stepOf, pairOf, completeOf, says, hunting, shifted, receiverOk, givenOk}
 use Rattle.receiver.specs.declared.Given.{Given}
 use Rattle.receiver.specs.declared.Given.the-variants.{No, Yes}
@@ -166,5 +166,5 @@ module _ (m : Message) (F : Framed m) (ok : messageOk m ≡ true) where
   pub hears-repeat : (p : ℕ) → p ≤ 63 → Run (awaiting m p) (frameOf m) (frameEvents m Repeat) (hunting (lastSix p (frameOf m)))
   unfolding completeOf
   hears-repeat p hp =
-      rw (repeat-self m ok)
+      rw (same-is-equal m m .1 refl)
       at (hears-whole (awaiting m p) (Yes m) ok (awaiting-starts m ok p hp))

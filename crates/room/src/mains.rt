@@ -109,6 +109,9 @@ fn answer_at(table: &mut [u8], events: &[u8], at: usize) -> u64
     ensures { λ r. ⌜ r ≡ codedAnswer (getD (now (events .entry)) at 0) (messageIn (drop (at + 1) (now (events .entry)))) (roomOf (now (table .entry))) ⌝ }
     ensures { λ _. ⌜ roomOf (now (table .exit)) ≡ codedRoom (getD (now (events .entry)) at 0) (messageIn (drop (at + 1) (now (events .entry)))) (roomOf (now (table .entry))) ⌝ }
 {
+    if events[at] != 1 {
+        return 0;
+    }
     answer_to(
         table,
         events[at],

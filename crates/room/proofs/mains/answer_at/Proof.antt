@@ -1,6 +1,6 @@
--- `answer_at` meets its contract: six bytes of the events, which are those that the definitions read.
-use mathlib.Core.Path.{ap, _∙_}
-use native.Mathlib.Omega.{arith}
+-- `answer_at` meets its contract: six bytes of the events, which are those that the definitions read; only code 1 has a message.
+use mathlib.Core.Path.{refl, ap, _∙_}
+use borrow.Author.Tests.{ne-eqb}
 use lib.ListN.{getD}
 use Rattle.wire.specs.declared.MessageRead.{MessageRead}
 use Rattle.room.specs.Rooms.{roomOf}
@@ -9,6 +9,12 @@ use Rattle.room.proofs.MainsLaws.{five-at}
 use borrow.Author.Needs.{needs}
 use Rattle.room.proofs.mains.answer_at.Statement.{statement}
 use Rattle.room.proofs.mains.answer_at.Tie as tie
+
+shared-slice-read-if1 : tie.Need-shared-slice-read-if1
+shared-slice-read-if1 c = search needs
+
+returns : tie.Need-returns
+returns c = rw (ne-eqb _ _ (c .if1 .taken)) (refl, refl)
 
 shared-slice-read-answer-to : tie.Need-shared-slice-read-answer-to
 shared-slice-read-answer-to c = search needs
@@ -49,9 +55,9 @@ answer-to-requires c κs = search needs
 same-length : tie.Need-same-length
 same-length c = search needs
 
-returns : tie.Need-returns
-returns c =
-    let start = c .before .before .before .before .before .before .before .before .before .before .before .before in
+returns-2 : tie.Need-returns-2
+returns-2 c =
+    let start = c .before .before .before .before .before .before .before .before .before .before .before .before .before .before in
     let events = start .args .events .now in
     let at = start .args .at in
     let did = c .before .before .answer-to .ensures in
@@ -65,6 +71,8 @@ pub answer-at-spec : {M : Type 1} → statement M
 answer-at-spec =
     tie.close
     (tie.spec
+    shared-slice-read-if1
+    returns
     shared-slice-read-answer-to
     add-answer-to
     shared-slice-read-answer-to-2
@@ -78,4 +86,4 @@ answer-at-spec =
     shared-slice-read-answer-to-6
     answer-to-requires
     same-length
-    returns)
+    returns-2)
