@@ -1,7 +1,8 @@
 -- The statements of specs/Statements proved: each goes by the two outcomes of applying a message.
 use mathlib.Core.Path.{_≡_, refl, sym, ap, subst, _∙_}
 use mathlib.Core.Bool.{Bool, true, false, not, _&&_, _||_, true≢false}
-use Prim.Native.Nat.{ℕ, _+_, _*_, _/_, _%_, _≤_, _<_}
+use mathlib.Core.List.{List}
+use Prim.Native.Nat.{ℕ, zero, suc, _+_, _*_, _/_, _%_, _≤_, _<_}
 use native.Mathlib.Omega.{arith}
 use native.Mathlib.Decide.{ℕ-discrete}
 use borrow.Author.Tests.{eqb-false, eq-eqb}
@@ -20,12 +21,13 @@ use Rattle.plan.specs.declared.Plan.the-variants.{Run, Refused}
 use Rattle.record.specs.declared.Record.{Record}
 use Rattle.record.specs.declared.House.{House}
 use Rattle.record.specs.Layout.{RECORD-BYTES, UNITS, RECORDS, HEARD-AT, recordAt, bytesOf, houseAt, present}
-use Rattle.record.specs.ModuleTable.{joined, left, acted, stepRecord, houseAfter, stepHouse, runAct}
+use Rattle.record.specs.ModuleTable.{joined, left, acted, stepRecord, houseAfter, stepHouse, runAct, changed}
 use Rattle.room.specs.Rooms.{Room, roomAfter, applyAnswer, roomReport, levelsOf}
 use Rattle.room.proofs.TableLaws.{byte-of-record, changed-ext, record-put-house}
 use Rattle.room.proofs.HouseLaws.{run-length, run-record, run-byte, run-house, run-house-other, whole}
 use Rattle.room.proofs.ApplyLaws.{house-below, Ran, Outcome, stays, did, outcome}
 use Rattle.room_laws.specs.Statements.{ownByte, planConcerns, ByPlan, OwnHouseOnly, OthersStay, RecordByRecord, RefusedStays, CountAtMost16}
+use Rattle.room_laws.specs.Statements.{CountAtMost256}
 use Rattle.room_laws.specs.Statements.{ExtendedKeeps}
 use Rattle.room_laws.proofs.ReachLaws.{step-changed, step-unreached}
 
@@ -106,6 +108,17 @@ refused-stays m room some = go (outcome m room)
     go : Outcome m room → (roomAfter m room ≡ room) × (levelsOf (applyAnswer m room) ≡ 0)
     go (stays why e same) = (same, rw e)
     go (did a r) = absurd (some (rw (r .answer)))
+
+changed-at-most : (n : ℕ) (before after : List ℕ) → changed n before after ≤ n
+unfolding changed
+changed-at-most zero before after = omega arith
+changed-at-most (suc n) before after =
+    let same = eqb (recordAt before n .level) (recordAt after n .level) in
+    let one : pick same 0 1 ≤ 1 = pick-both (λ x. x ≤ 1) same 0 1 (omega arith) (omega arith) in
+    omega (arith, changed-at-most n before after, one)
+
+pub count-at-most-256 : CountAtMost256
+count-at-most-256 before after = changed-at-most RECORDS (before .modules) (after .modules)
 
 pub count-at-most-16 : CountAtMost16
 unfolding runAct

@@ -20,7 +20,7 @@ use Rattle.record.specs.declared.Record.{Record}
 use Rattle.record.specs.declared.House.{House}
 use Rattle.record.specs.Layout.{RECORD-BYTES, UNITS, RECORDS, HEARD-AT, recordAt, houseAt, present, lamp, member}
 use Rattle.record.specs.ModuleTable.{addressed, stepRecord, houseAfter}
-use Rattle.room.specs.Rooms.{Room, roomAfter, applyAnswer, roomReport, levelsOf}
+use Rattle.room.specs.Rooms.{Room, changes, roomAfter, applyAnswer, roomReport, levelsOf}
 
 -- ---- what a message is about
 
@@ -113,6 +113,10 @@ RefusedStays =
 -- the count is at most 16
 abbrev pub CountAtMost16 : Type 0
 CountAtMost16 = (m : Message) (room : Room) → levelsOf (applyAnswer m room) ≤ UNITS
+
+-- the count of any routine on a room, a whole slice too, is of its 256 records: it fits the 16 bits that an exported answer has for it
+abbrev pub CountAtMost256 : Type 0
+CountAtMost256 = (before after : Room) → changes before after .levels ≤ RECORDS
 
 -- extended commands "never touch addressing or house bytes"
 abbrev pub ExtendedKeeps : Type 0
