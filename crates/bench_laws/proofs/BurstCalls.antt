@@ -28,7 +28,7 @@ use Rattle.station.specs.declared.bench.BenchAnswer.the-variants.{Line}
 use Rattle.station.specs.declared.bench.BenchTurn.{BenchTurn}
 use Rattle.receiver_laws.proofs.Rests.{Rests, rests-ready}
 use Rattle.receiver_laws.proofs.Standing.{standsAt, eventAt, stands-last, repeat-ends}
-use Rattle.bench_run.specs.Calls.{Moment, linesOf, eventsIn, hears}
+use Rattle.bench_run.specs.Calls.{Moment, linesOf, eventsIn, nextMoment}
 use Rattle.bench_laws.specs.Demand3.{SaysDone, SentAndHeard}
 use Rattle.bench_laws.proofs.BurstLaws.{burst-most, counted, countedBy, counted-append, clear-briefly}
 use Rattle.bench_laws.proofs.BenchLaws.{turnAt, Turns}
@@ -132,8 +132,8 @@ module _ (n : ℕ) (message : ℕ → Message) (B : Bench n message) (start : Li
           (countedBy z longer)
 
       burst-goes-on : Kept n message start now
-          → Kept n message start (hears now t (Line h)) × Underway n message z r longer (hears now t (Line h))
-          × Sender n message (countedBy z longer) longer (hears now t (Line h))
+          → Kept n message start (nextMoment now t (Line h)) × Underway n message z r longer (nextMoment now t (Line h))
+          × Sender n message (countedBy z longer) longer (nextMoment now t (Line h))
       burst-goes-on K = (
         keeps n message start now draws h t T K (λ i l. going i l .0 .empties)
             (going-right n message start now draws h t T (λ i l. going i l .1) no-repeat gives cleanly),
@@ -192,7 +192,7 @@ module _ (n : ℕ) (message : ℕ → Message) (B : Bench n message) (start : Li
           go (suc h) f = omega arith
 
       burst-over : Kept n message start now
-          → Kept n message start (hears now t (Line h)) × Quiet n message (countedBy z longer) (hears now t (Line h))
+          → Kept n message start (nextMoment now t (Line h)) × Quiet n message (countedBy z longer) (nextMoment now t (Line h))
       unfolding standsAt
       burst-over K = (
         keeps n message start now draws h t T K (λ i l. over i l .empties)
@@ -212,7 +212,7 @@ module _ (n : ℕ) (message : ℕ → Message) (B : Bench n message) (start : Li
 
   module _ (t : BenchTurn) (K : Kept n message start now) where
     abbrev Next : ℕ → Type 0
-    Next h = Kept n message start (hears now t (Line h)) × State n message (hears now t (Line h))
+    Next h = Kept n message start (nextMoment now t (Line h)) × State n message (nextMoment now t (Line h))
 
     burst-next : (h : ℕ) → h ≤ 1 → Turns n (now .slots) draws h t → (z : ℕ) (r : Receiver) (sent : List ℕ) → Underway n message z r sent now
         → (F : Sender n message (countedBy z sent) sent now) → getD (burstOf (message (F .who))) (length sent) 0 ≡ h → Next h

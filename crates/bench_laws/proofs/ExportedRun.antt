@@ -34,12 +34,13 @@ use Rattle.station.specs.declared.bench.BenchAnswer.{BenchAnswer}
 use Rattle.station.specs.declared.bench.BenchAnswer.the-variants.{Line, Refused}
 use Rattle.station.specs.declared.bench.BenchTurn.{BenchTurn}
 use Rattle.station.proofs.SlotLaws.{draw-at}
-use Rattle.wire.specs.Messages.{takenMessage, functionFrom, messageFrom, messageIn}
+use Rattle.wire.specs.Messages.{takenMessage, functionFrom, messageFrom, messageIn, saysMessage}
 use Rattle.wire.specs.declared.MessageRead.{MessageRead}
 use Rattle.wire.specs.declared.MessageRead.the-variants.{Message as Says, Refused as NoMessage}
 use Rattle.wire.proofs.MessageLaws.{messages-read-back}
-use Rattle.bench_run.specs.Calls.{Moment, hears, call, run, Drawn}
-use Rattle.bench_run.specs.BenchRuns.{saysMessage, allSay, loadedBy, benchFrom, slotsFrom, drawsOf, callsOf, momentAfter, turnsOf, Lent, runCauses, slotsIn}
+use Rattle.bench_run.specs.Calls.{Moment, nextMoment, call, run, Drawn}
+use Rattle.bench_run.specs.BenchRuns.{allSay, loadedBy, benchFrom, slotsFrom, drawsOf, callsOf, momentAfter, turnsOf}
+use Rattle.bench_run.specs.BenchRuns.{RunSlices, runCauses, slotsIn}
 use Rattle.bench_run.specs.BenchRuns.{momentIn, turnsIn, runAnswer, linesAfter, marksAfter}
 use Rattle.bench_run.proofs.LoadLaws.{bench-length}
 use Rattle.bench_laws.specs.Demand3.{Start}
@@ -54,7 +55,7 @@ none-stops true why cs e = (refl, e)
 none-stops false why cs e = absurd (omega (arith, some-number why, e))
 
 -- what the tests of the run say where all are passed
-record Passed (l : Lent) : Type 0 where
+record Passed (l : RunSlices) : Type 0 where
   say : allSay (length (l .messages) / 5) (l .messages) ≡ true
   some : 1 ≤ length (l .loads)
   most : length (l .loads) ≤ mostStations
@@ -62,7 +63,7 @@ record Passed (l : Lent) : Type 0 where
   draws : drawsOk (l .loads) ≡ true
   whole : length (l .draws) ≡ length (l .loads) * length (l .lines)
 
-passed : (l : Lent) → numberGiven (runCauses l) ≡ 0 → Passed l
+passed : (l : RunSlices) → numberGiven (runCauses l) ≡ 0 → Passed l
 passed l e =
     let a = none-stops _ _ _ e in
     let b = none-stops _ _ _ (a .1) in
@@ -160,7 +161,7 @@ call-kept : (n : ℕ) (now : Moment) (draws : List ℕ)
 unfolding call
 call-kept n now draws = go (benchOf n (now .slots) draws) (benchOf n (now .slots) draws .answer)
   where
-    go : (o : BenchTurn) (a : BenchAnswer) → reverse (map keptOf (hears now o a .past)) ≡ reverse (map keptOf (now .past)) ++ answeredBy o a
+    go : (o : BenchTurn) (a : BenchAnswer) → reverse (map keptOf (nextMoment now o a .past)) ≡ reverse (map keptOf (now .past)) ++ answeredBy o a
     go o (Line h) = reverse-cons (h, o .done) (map keptOf (now .past))
     go o (Refused why) = sym (append-nil (reverse (map keptOf (now .past))))
 
@@ -177,7 +178,7 @@ turns-kept n slots draws (suc k) =
 
 -- ---- what is lent
 
-module _ (l : Lent) (bytes : (i : ℕ) → getD (l .messages) i 0 < 256) (p : Passed l) where
+module _ (l : RunSlices) (bytes : (i : ℕ) → getD (l .messages) i 0 < 256) (p : Passed l) where
   abbrev n : ℕ
   n = length (l .loads)
 

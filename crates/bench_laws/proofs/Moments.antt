@@ -25,7 +25,7 @@ use Rattle.station.specs.declared.bench.BenchAnswer.the-variants.{Line}
 use Rattle.station.specs.declared.bench.BenchTurn.{BenchTurn}
 use Rattle.receiver_laws.specs.Whole.{Ready}
 use Rattle.receiver_laws.proofs.Rests.{Rests, rests-step, rests-next}
-use Rattle.bench_run.specs.Calls.{Answered, Moment, linesOf, eventsIn, hears}
+use Rattle.bench_run.specs.Calls.{Answered, Moment, linesOf, eventsIn, nextMoment}
 use Rattle.bench_laws.specs.Demand3.{callsEach, timesDone, Right, AllRight}
 use Rattle.bench_laws.proofs.BurstLaws.{countedBy}
 use Rattle.bench_laws.proofs.BenchLaws.{turnAt, Turns}
@@ -106,7 +106,7 @@ module _ (n : ℕ) (message : ℕ → Message) where
   module _ (start : List Station) (now : Moment) (draws : List ℕ) (h : ℕ) (t : BenchTurn) (T : Turns n (now .slots) draws h t) where
     pub keeps : Kept start now
         → ((i : ℕ) → i < n → vacant (turnAt h (now .slots) draws i .next) ≡ mark (isDone (turnAt h (now .slots) draws i .answer)) + vacant (slot now i))
-        → Right n message (newest now h t) (now .past) → Kept start (hears now t (Line h))
+        → Right n message (newest now h t) (now .past) → Kept start (nextMoment now t (Line h))
     keeps K empties right = record {
       room = omega (arith, T .same, K .room);
       beyond = T .beyond ∙ K .beyond;
@@ -132,7 +132,7 @@ module _ (n : ℕ) (message : ℕ → Message) where
         → Settles (message i) [] (c + 1) (slot now i) (turnAt 0 (now .slots) draws i) × (isDone (turnAt 0 (now .slots) draws i .answer) ≡ false)
     settled i l = counts-on (message i) (B .valid i l) c (getD draws i 0) (T .draw i l) (slot now i) (T .above i l) (Q .stations i l)
 
-    pub quiet-call : Kept start now → Kept start (hears now t (Line 0)) × Quiet (c + 1) (hears now t (Line 0))
+    pub quiet-call : Kept start now → Kept start (nextMoment now t (Line 0)) × Quiet (c + 1) (nextMoment now t (Line 0))
     quiet-call K =
         let step = rests-step (Q .rests) in
         let nothing : newest now 0 t .event ≡ Nothing = ap (λ (x : Heard). x .event) step in (

@@ -20,7 +20,7 @@ use Rattle.station.specs.declared.Held.{Held}
 use Rattle.station.specs.declared.Station.{Station}
 use Rattle.station.specs.declared.bench.BenchAnswer.the-variants.{Line}
 use Rattle.station.specs.declared.bench.BenchTurn.{BenchTurn}
-use Rattle.bench_run.specs.Calls.{Moment, linesOf, atStart, hears, call, run, Drawn}
+use Rattle.bench_run.specs.Calls.{Moment, linesOf, atStart, nextMoment, call, run, Drawn}
 use Rattle.bench_laws.specs.Demand3.{Start, timesDone}
 use Rattle.bench_laws.specs.Together.{Starts, Greatest, Later, GreatestWins, EqualsFinishTogether}
 use Rattle.bench_laws.proofs.BurstLaws.{burst-some}
@@ -47,7 +47,7 @@ module _ (n : ℕ) (message : ℕ → Message) (draw : ℕ → ℕ) (slots : Lis
     turns : Turns n (x .slots) draws line turn
 
   abbrev after : (x : Moment) → Answered x → Moment
-  after x a = hears x (a .turn) (Line (a .line))
+  after x a = nextMoment x (a .turn) (Line (a .line))
 
   abbrev standing : (x : Moment) → Answered x → Alike n message x
   standing x a = alike n message x (a .here .state)

@@ -17,7 +17,7 @@ use Rattle.station.specs.Benches.{drawsOk, benchOf}
 use Rattle.station.specs.declared.bench.BenchAnswer.the-variants.{Line}
 use Rattle.station.specs.declared.bench.BenchTurn.{BenchTurn}
 use Rattle.receiver_laws.proofs.Rests.{rests-fresh}
-use Rattle.bench_run.specs.Calls.{Moment, atStart, hears, call, run, Drawn}
+use Rattle.bench_run.specs.Calls.{Moment, atStart, nextMoment, call, run, Drawn}
 use Rattle.bench_laws.specs.Demand3.{callsEach, Start, timesDone, Claim, Demand3}
 use Rattle.bench_laws.proofs.BurstLaws.{burst-most}
 use Rattle.bench_laws.proofs.Turns.{drawn, Accepted, accepted}
@@ -30,7 +30,7 @@ use Rattle.bench_laws.proofs.BurstCalls.{next-state}
 -- a call is refused and changes nothing, or turns every station
 pub data Called (n : ℕ) (now : Moment) (draws : List ℕ) : Type 0 where
   refused : call n now draws ≡ now → Called n now draws
-  taken : (h : ℕ) (t : BenchTurn) → h ≤ 1 → Turns n (now .slots) draws h t → call n now draws ≡ hears now t (Line h) → Called n now draws
+  taken : (h : ℕ) (t : BenchTurn) → h ≤ 1 → Turns n (now .slots) draws h t → call n now draws ≡ nextMoment now t (Line h) → Called n now draws
 
 module _ (n : ℕ) (message : ℕ → Message) (draw : ℕ → ℕ) (slots : List Station) (S : Start n message draw slots) where
   loading : (i : ℕ) → i < n → Accepted (message i) (draw i)
@@ -67,7 +67,7 @@ module _ (n : ℕ) (message : ℕ → Message) (draw : ℕ → ℕ) (slots : Lis
     stays : (draws : List ℕ) → drawsOk (take n draws) ≡ false → call n now draws ≡ now
     unfolding call
     stays draws e =
-        ap (λ (t : BenchTurn). hears now t (t .answer))
+        ap (λ (t : BenchTurn). nextMoment now t (t .answer))
         (bench-refuses n (now .slots) draws (S .some) (S .most) (H .kept .room) ok e)
 
     pub called : (draws : List ℕ) → n ≤ length draws → Called n now draws
@@ -79,9 +79,9 @@ module _ (n : ℕ) (message : ℕ → Message) (draw : ℕ → ℕ) (slots : Lis
         go true e =
             let t = bench-turns n (now .slots) draws (S .some) (S .most) (H .kept .room) ok enough e in
             let low = line-half n message bench now (alike n message now (H .state)) draws (t .0) (benchOf n (now .slots) draws) (t .1) in
-            taken (t .0) (benchOf n (now .slots) draws) low (t .1) (ap (hears now (benchOf n (now .slots) draws)) (t .1 .answers))
+            taken (t .0) (benchOf n (now .slots) draws) low (t .1) (ap (nextMoment now (benchOf n (now .slots) draws)) (t .1 .answers))
 
-    then-reached : (draws : List ℕ) (h : ℕ) (t : BenchTurn) → h ≤ 1 → Turns n (now .slots) draws h t → Reached (hears now t (Line h))
+    then-reached : (draws : List ℕ) (h : ℕ) (t : BenchTurn) → h ≤ 1 → Turns n (now .slots) draws h t → Reached (nextMoment now t (Line h))
     then-reached draws h t low T =
         let x = next-state n message bench slots now draws t (H .kept) (H .state) h low T in
         record { kept = x .0; state = x .1 }

@@ -14,7 +14,7 @@ use Rattle.station.specs.declared.bench.BenchTurn.{BenchTurn}
 use Rattle.wire.specs.Messages.{messageIn}
 use Rattle.wire.specs.declared.MessageRead.the-variants.{Message as Says}
 use Rattle.bench_run.specs.Calls.{Answered, atStart, run, Drawn}
-use Rattle.bench_run.specs.BenchRuns.{callsOf, lineBytes, markBytes, Lent, runCauses, slotsIn, momentIn, turnsIn, runAnswer, linesAfter, marksAfter}
+use Rattle.bench_run.specs.BenchRuns.{callsOf, lineBytes, markBytes, RunSlices, runCauses, slotsIn, momentIn, turnsIn, runAnswer, linesAfter, marksAfter}
 use Rattle.bench_laws.specs.Demand3.{Start, Claim}
 
 -- the line's half-cycle and which stations are DONE, of a call that was not refused; nothing of one that was
@@ -27,7 +27,7 @@ abbrev pub keptOf : Answered → ℕ × List Bool
 keptOf a = (a .line, a .done)
 
 -- of lent bytes, with n draws to load with
-pub record Exported (n : ℕ) (l : Lent) : Type 0 where
+pub record Exported (n : ℕ) (l : RunSlices) : Type 0 where
   -- station i's message is what its five bytes say
   pub message : ℕ → Message
   pub says : (i : ℕ) → i < n → messageIn (drop (5 * i) (l .messages)) ≡ Says (message i)
@@ -48,4 +48,4 @@ pub record Exported (n : ℕ) (l : Lent) : Type 0 where
 
 -- whatever is lent that the run does not refuse; the bytes of messages are bytes
 abbrev pub ExportedRun : Type 0
-ExportedRun = (l : Lent) → ((i : ℕ) → getD (l .messages) i 0 < 256) → numberGiven (runCauses l) ≡ 0 → Exported (length (l .loads)) l
+ExportedRun = (l : RunSlices) → ((i : ℕ) → getD (l .messages) i 0 < 256) → numberGiven (runCauses l) ≡ 0 → Exported (length (l .loads)) l

@@ -19,13 +19,14 @@ use Rattle.ground.specs.Choice.{pick}
 use Rattle.ground.specs.Refusals.{Cause, when, unless, judged}
 use Rattle.ground.specs.declared.Refusal.{Refusal}
 use Rattle.ground.proofs.Choices.{pick-both}
+use Rattle.ground.proofs.Lists.{flat-append, flat-length}
 use Rattle.station.specs.Benches.{turnAll, benchRefused, benchCauses, benchOf}
 use Rattle.station.specs.declared.Station.{Station}
 use Rattle.station.specs.declared.bench.BenchAnswer.{BenchAnswer}
 use Rattle.station.specs.declared.bench.BenchAnswer.the-variants.{Line, Refused}
 use Rattle.station.specs.declared.bench.BenchTurn.{BenchTurn}
-use Rattle.bench_run.specs.Calls.{Moment, hears, call, run, RefusedCallLeaves}
-use Rattle.bench_run.specs.BenchRuns.{drawsOf, callsOf, momentAfter, turnsOf, lineByte, lineBytes, counts, maskOf, markBytes}
+use Rattle.bench_run.specs.Calls.{Moment, nextMoment, call, run, RefusedCallLeaves}
+use Rattle.bench_run.specs.BenchRuns.{drawsOf, callsOf, momentAfter, turnsOf, lineByte, lineBytes, countsAs, doneMask, markBytes}
 
 -- ---- the mask
 
@@ -33,21 +34,21 @@ at-most-one : (b : Bool) → pick {A = ℕ} b 1 0 ≤ 1
 at-most-one true = omega arith
 at-most-one false = omega arith
 
-pub mask-below : (bs : List Bool) → maskOf bs < 2 ^ length bs
-unfolding maskOf
+pub mask-below : (bs : List Bool) → doneMask bs < 2 ^ length bs
+unfolding doneMask
 mask-below [] = omega arith
 mask-below (b ∷ bs) = rw (pow-suc 2 (length bs)) (omega (arith, mask-below bs, at-most-one b))
 
 -- one more station in front: the highest of sixteen bits is still free
-pub mask-cons : (bs : List Bool) (left mask bit : ℕ) (d : Bool) → 0 < left → left ≤ length bs → length bs ≡ 16 → mask ≡ maskOf (drop left bs)
-    → bit ≡ pick (getD bs (left - 1) d) 1 0 → mask % 32768 * 2 + bit ≡ maskOf (drop (left - 1) bs)
-unfolding maskOf
+pub mask-cons : (bs : List Bool) (left mask bit : ℕ) (d : Bool) → 0 < left → left ≤ length bs → length bs ≡ 16 → mask ≡ doneMask (drop left bs)
+    → bit ≡ pick (getD bs (left - 1) d) 1 0 → mask % 32768 * 2 + bit ≡ doneMask (drop (left - 1) bs)
+unfolding doneMask
 mask-cons bs left mask bit d some within long e one =
     let next : suc (left - 1) ≡ left = omega arith in
-    let value : maskOf (drop (left - 1) bs) ≡ pick (getD bs (left - 1) d) 1 0 + 2 * maskOf (drop left bs) =
-    ap maskOf (drop-cons bs (left - 1) d (omega arith) ∙ ap (λ (k : ℕ). getD bs (left - 1) d ∷ drop k bs) next) in
+    let value : doneMask (drop (left - 1) bs) ≡ pick (getD bs (left - 1) d) 1 0 + 2 * doneMask (drop left bs) =
+    ap doneMask (drop-cons bs (left - 1) d (omega arith) ∙ ap (λ (k : ℕ). getD bs (left - 1) d ∷ drop k bs) next) in
     let short : length (drop left bs) ≤ 15 = omega (arith, length-drop left bs) in
-    let low : maskOf (drop left bs) < 2 ^ 15 = le-trans (mask-below (drop left bs)) (pow-mono short) in
+    let low : doneMask (drop left bs) < 2 ^ 15 = le-trans (mask-below (drop left bs)) (pow-mono short) in
     omega (arith, value, low)
 
 -- ---- one call
@@ -63,16 +64,16 @@ module _ (n : ℕ) (now : Moment) (draws : List ℕ) where
   unfolding call
   call-slots = go (benchOf n (now .slots) draws) (benchOf n (now .slots) draws .answer)
     where
-      go : (o : BenchTurn) (a : BenchAnswer) → hears now o a .slots ≡ o .slots
+      go : (o : BenchTurn) (a : BenchAnswer) → nextMoment now o a .slots ≡ o .slots
       go o (Line h) = refl
       go o (Refused why) = refl
 
   -- and one answer more where it was not refused
-  call-counts : length (call n now draws .past) ≡ length (now .past) + counts (benchOf n (now .slots) draws .answer)
+  call-counts : length (call n now draws .past) ≡ length (now .past) + countsAs (benchOf n (now .slots) draws .answer)
   unfolding call
   call-counts = go (benchOf n (now .slots) draws) (benchOf n (now .slots) draws .answer)
     where
-      go : (o : BenchTurn) (a : BenchAnswer) → length (hears now o a .past) ≡ length (now .past) + counts a
+      go : (o : BenchTurn) (a : BenchAnswer) → length (nextMoment now o a .past) ≡ length (now .past) + countsAs a
       go o (Line h) = sym (add-one (length (now .past)))
       go o (Refused why) = sym (add-zero (length (now .past)))
 
@@ -98,7 +99,7 @@ unfolding call
 refused-call-leaves n now draws why e =
     let o = benchOf n (now .slots) draws in
     let kept : List Station → Moment = λ s. record { slots = s; receiver = now .receiver; past = now .past } in
-    ap (λ (a : BenchAnswer). hears now o a) e ∙ ap kept (refused-slots n (now .slots) draws why e)
+    ap (λ (a : BenchAnswer). nextMoment now o a) e ∙ ap kept (refused-slots n (now .slots) draws why e)
 
 -- ---- lists that grow at their end
 
@@ -110,15 +111,8 @@ put-next xs l j x e h =
     ∙ sym (append-snoc xs x (drop (suc j) l))
     ∙ ap (λ (k : ℕ). xs ++ (x ∷ []) ++ drop k l) (sym (add-one j))
 
-flat-append : (os ps : List BenchTurn) → flatMap markBytes (os ++ ps) ≡ flatMap markBytes os ++ flatMap markBytes ps
-unfolding flatMap
-flat-append [] ps = refl
-flat-append (o ∷ os) ps = ap (λ (l : List ℕ). markBytes o ++ l) (flat-append os ps)
-
 marks-length : (os : List BenchTurn) → length (flatMap markBytes os) ≡ 2 * length os
-unfolding flatMap
-marks-length [] = refl
-marks-length (o ∷ os) = omega (arith, marks-length os)
+marks-length os = flat-length markBytes 2 os (λ o. refl)
 
 turns-length : (n : ℕ) (slots : List Station) (draws : List ℕ) (k : ℕ) → length (turnsOf n slots draws k) ≡ k
 unfolding turnsOf
@@ -208,16 +202,16 @@ module _ {n : ℕ} {slots : List Station} {draws lines marks linesNow marksNow :
           ∙ map-append (λ (t : BenchTurn). lineByte (t .answer)) turns (o ∷ [])
           ∙ ap (λ (y : ℕ). lineBytes turns ++ (y ∷ [])) (sym e)
 
-      marked : {m : ℕ} → m ≡ maskOf (o .done)
+      marked : {m : ℕ} → m ≡ doneMask (o .done)
           → flatMap markBytes (turnsOf n slots draws (suc j)) ≡ flatMap markBytes turns ++ (m / 256 % 256 ∷ []) ++ (m % 256 ∷ [])
       unfolding flatMap
       marked {m} e =
           ap (flatMap markBytes) one-more
-          ∙ flat-append turns (o ∷ [])
+          ∙ flat-append markBytes turns (o ∷ [])
           ∙ ap (λ (y : ℕ). flatMap markBytes turns ++ (y / 256 % 256 ∷ y % 256 ∷ [])) (sym e)
           ∙ sym (append-snoc (flatMap markBytes turns) (m / 256 % 256) (m % 256 ∷ []))
 
-      pub calling-next : {x m k : ℕ} → x ≡ lineByte (o .answer) → m ≡ maskOf (o .done) → (k ≡ counts (o .answer)) × (k ≤ 1)
+      pub calling-next : {x m k : ℕ} → x ≡ lineByte (o .answer) → m ≡ doneMask (o .done) → (k ≡ countsAs (o .answer)) × (k ≤ 1)
           → Calling n slots draws lines marks
           (set linesNow j x) (set (set marksNow (2 * j) (m / 256 % 256)) (2 * j + 1) (m % 256)) (o .slots) (count + k) (at + n) (j + 1)
       unfolding run callsOf
@@ -244,7 +238,7 @@ module _ {n : ℕ} {slots : List Station} {draws lines marks linesNow marksNow :
             place = ap (λ (p : ℕ). p + n) (g .place) ∙ sym (mul-suc n j);
             standing = sym (call-slots n now (drawsOf n draws j) ∙ ap (λ (t : BenchTurn). t .slots) turn-is);
             counting =
-                ap₂ (λ (a b : ℕ). a + b) (g .counting) (ek .0 ∙ ap (λ (t : BenchTurn). counts (t .answer)) (sym turn-is))
+                ap₂ (λ (a b : ℕ). a + b) (g .counting) (ek .0 ∙ ap (λ (t : BenchTurn). countsAs (t .answer)) (sym turn-is))
                 ∙ sym (call-counts n now (drawsOf n draws j));
             lining =
                 ap (λ (l : List ℕ). set l j x) (g .lining)

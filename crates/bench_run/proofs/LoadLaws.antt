@@ -15,8 +15,8 @@ use lib.Seq.{sets, sets-eq, drop-cons, drop-drop, take-suc, take-suc-set, getD-d
 use Rattle.station.specs.Stations.{emptyStation, drawOk}
 use Rattle.station.specs.declared.Station.{Station}
 use Rattle.station.specs.Benches.{mostStations, drawsOk}
-use Rattle.wire.specs.Messages.{messageIn}
-use Rattle.bench_run.specs.BenchRuns.{saysMessage, allSay, loadedBy, benchFrom, slotsFrom}
+use Rattle.wire.specs.Messages.{messageIn, saysMessage}
+use Rattle.bench_run.specs.BenchRuns.{allSay, loadedBy, benchFrom, slotsFrom}
 
 pub draws-cons : (ds : List ℕ) (i : ℕ) → i < length ds → drawsOk (drop i ds) ≡ (drawOk (getD ds i 0) && drawsOk (drop (i + 1) ds))
 unfolding drawsOk

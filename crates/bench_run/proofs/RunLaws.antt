@@ -17,7 +17,7 @@ use Rattle.ground.specs.declared.CountAnswer.the-variants.{Done, Refused}
 use Rattle.ground.specs.declared.Refusal.{Refusal}
 use Rattle.ground.proofs.Causes.{judged-map, nothing-refused, lowest-given}
 use Rattle.station.specs.declared.Station.{Station}
-use Rattle.bench_run.specs.BenchRuns.{momentAfter, turnsOf, lineBytes, markBytes, Lent, runCauses, slotsIn, momentIn, turnsIn, runAnswer}
+use Rattle.bench_run.specs.BenchRuns.{momentAfter, turnsOf, lineBytes, markBytes, RunSlices, runCauses, slotsIn, momentIn, turnsIn, runAnswer}
 use Rattle.bench_run.specs.BenchRuns.{runReport, linesAfter, marksAfter, RunLowest}
 
 pub draws-match : (n draws calls : ℕ) → draws / n ≡ calls → draws % n ≡ 0 → draws ≡ n * calls
@@ -47,7 +47,7 @@ refused-by (unless fine w ∷ cs) n why done refused e = go fine e (refused-by c
     go true e rest = rest e
     go false e rest = cc
 
-module _ (l : Lent) where
+module _ (l : RunSlices) where
   -- what the run owes
   abbrev pub Owed : CountAnswer → List ℕ → List ℕ → Type 0
   Owed o lines marks = (o ≡ runAnswer l) × ((countReport o ≡ runReport l) × ((lines ≡ linesAfter l) × (marks ≡ marksAfter l)))

@@ -16,16 +16,12 @@ use Rattle.station.specs.declared.Station.{Station}
 use Rattle.station.specs.declared.bench.BenchAnswer.{BenchAnswer}
 use Rattle.station.specs.declared.bench.BenchAnswer.the-variants.{Line, Refused as NoLine}
 use Rattle.station.specs.declared.bench.BenchTurn.{BenchTurn}
-use Rattle.wire.specs.Messages.{messageIn}
+use Rattle.wire.specs.Messages.{saysMessage, messageIn}
 use Rattle.wire.specs.declared.MessageRead.{MessageRead}
 use Rattle.wire.specs.declared.MessageRead.the-variants.{Message as Says, Refused as NoMessage}
 use Rattle.bench_run.specs.Calls.{Moment, atStart, run}
 
 -- ---- the messages and the stations
-
-abbrev pub saysMessage : MessageRead → Bool
-saysMessage (Says m) = true
-saysMessage (NoMessage why) = false
 
 -- the first k messages of the bytes, five bytes each
 unfoldable pub allSay : ℕ → List ℕ → Bool
@@ -77,34 +73,34 @@ abbrev pub lineBytes : List BenchTurn → List ℕ
 lineBytes os = map (λ (o : BenchTurn). lineByte (o .answer)) os
 
 -- "which stations are DONE": station i in bit i, and that number in two bytes, highest first
-unfoldable pub maskOf : List Bool → ℕ
-maskOf [] = 0
-maskOf (b ∷ bs) = pick b 1 0 + 2 * maskOf bs
+unfoldable pub doneMask : List Bool → ℕ
+doneMask [] = 0
+doneMask (b ∷ bs) = pick b 1 0 + 2 * doneMask bs
 
 abbrev pub markBytes : BenchTurn → List ℕ
-markBytes o = maskOf (o .done) / 256 % 256 ∷ maskOf (o .done) % 256 ∷ []
+markBytes o = doneMask (o .done) / 256 % 256 ∷ doneMask (o .done) % 256 ∷ []
 
 -- 1 for a call that was not refused
-abbrev pub counts : BenchAnswer → ℕ
-counts (Line h) = 1
-counts (NoLine why) = 0
+abbrev pub countsAs : BenchAnswer → ℕ
+countsAs (Line h) = 1
+countsAs (NoLine why) = 0
 
 -- ---- the run
 
 -- the five slices that are lent
-pub record Lent : Type 0 where
+pub record RunSlices : Type 0 where
   pub messages : List ℕ
   pub loads : List ℕ
   pub draws : List ℕ
   pub lines : List ℕ
   pub marks : List ℕ
 
-abbrev pub lent : List ℕ → List ℕ → List ℕ → List ℕ → List ℕ → Lent
+abbrev pub lent : List ℕ → List ℕ → List ℕ → List ℕ → List ℕ → RunSlices
 lent messages loads draws lines marks = record { messages = messages; loads = loads; draws = draws; lines = lines; marks = marks }
 
 -- five bytes that say no message; a bench of 0 or over 16, or not five bytes for each station; a draw to load with; not a draw for each
 -- station and call, or not two marks for each call
-abbrev pub runCauses : Lent → List Cause
+abbrev pub runCauses : RunSlices → List Cause
 runCauses l =
     unless (allSay (length (l .messages) / 5) (l .messages)) refusal.Message
     ∷ unless (leb 1 (length (l .loads))) refusal.State
@@ -116,30 +112,30 @@ runCauses l =
     ∷ []
 
 -- the slots, and a call for each byte of lines: where they lead, and what each gives
-abbrev pub slotsIn : Lent → List Station
+abbrev pub slotsIn : RunSlices → List Station
 slotsIn l = slotsFrom (l .messages) (l .loads)
 
-unfoldable pub momentIn : Lent → Moment
+unfoldable pub momentIn : RunSlices → Moment
 momentIn l = momentAfter (length (l .loads)) (slotsIn l) (l .draws) (length (l .lines))
 
-unfoldable pub turnsIn : Lent → List BenchTurn
+unfoldable pub turnsIn : RunSlices → List BenchTurn
 turnsIn l = turnsOf (length (l .loads)) (slotsIn l) (l .draws) (length (l .lines))
 
 -- how many calls were not refused
-unfoldable pub runAnswer : Lent → CountAnswer
+unfoldable pub runAnswer : RunSlices → CountAnswer
 runAnswer l = judged (runCauses l) (Done (length (momentIn l .past))) Refused
 
 -- 01's number, and that count
-abbrev pub runReport : Lent → Report ℕ
+abbrev pub runReport : RunSlices → Report ℕ
 runReport l = judged (runCauses l) (reports (length (momentIn l .past) ∷ [])) refuses
 
 -- the lines and the marks at exit; bytes of marks beyond stay
-unfoldable pub linesAfter : Lent → List ℕ
+unfoldable pub linesAfter : RunSlices → List ℕ
 linesAfter l = judged (runCauses l) (lineBytes (turnsIn l)) (λ why. l .lines)
 
-unfoldable pub marksAfter : Lent → List ℕ
+unfoldable pub marksAfter : RunSlices → List ℕ
 marksAfter l = judged (runCauses l) (flatMap markBytes (turnsIn l) ++ drop (2 * length (l .lines)) (l .marks)) (λ why. l .marks)
 
 -- "Within one routine the lowest number that applies is given.": proofs/RunLaws.antt
 abbrev pub RunLowest : Type 0
-RunLowest = (l : Lent) → lowest (runCauses l) ≡ numberGiven (runCauses l)
+RunLowest = (l : RunSlices) → lowest (runCauses l) ≡ numberGiven (runCauses l)

@@ -39,17 +39,17 @@ atStart slots = record { slots = slots; receiver = freshReceiver; past = [] }
 
 -- "After each bench call that is not refused, and only then, the receiver is called once with the line's half-cycle just answered, in
 -- the state that its own last call returned or left."
-abbrev pub hears : Moment → BenchTurn → BenchAnswer → Moment
-hears now turn (Line h) = record {
+abbrev pub nextMoment : Moment → BenchTurn → BenchAnswer → Moment
+nextMoment now turn (Line h) = record {
   slots = turn .slots;
   receiver = stepOf (now .receiver) h .next;
   past = record { line = h; done = turn .done; event = stepOf (now .receiver) h .event } ∷ now .past;
 }
-hears now turn (Refused why) = record { slots = turn .slots; receiver = now .receiver; past = now .past }
+nextMoment now turn (Refused why) = record { slots = turn .slots; receiver = now .receiver; past = now .past }
 
 -- "Each bench call, a refused one too, gets the same n and, in their slots, all n stations as the call before it returned or left them."
 unfoldable pub call : ℕ → Moment → List ℕ → Moment
-call n now draws = hears now (benchOf n (now .slots) draws) (benchOf n (now .slots) draws .answer)
+call n now draws = nextMoment now (benchOf n (now .slots) draws) (benchOf n (now .slots) draws .answer)
 
 -- the calls of a list, newest first like their answers, each given by its draws
 unfoldable pub run : ℕ → Moment → List (List ℕ) → Moment

@@ -19,9 +19,9 @@ ghost use lib.ListN.{length, take, drop};
 ghost use Rattle.ground.specs.Choice.{pick};
 ghost use Rattle.ground.specs.Refusals.{countReport};
 ghost use Rattle.station.specs.Benches.{drawsOk};
-ghost use Rattle.wire.specs.Messages.{messageIn};
-ghost use Rattle.bench_run.specs.BenchRuns.{saysMessage, allSay, loadedBy, slotsFrom, momentAfter, turnsOf, lineByte, lineBytes, markBytes, counts};
-ghost use Rattle.bench_run.specs.BenchRuns.{maskOf};
+ghost use Rattle.wire.specs.Messages.{messageIn, saysMessage};
+ghost use Rattle.bench_run.specs.BenchRuns.{allSay, loadedBy, slotsFrom, momentAfter, turnsOf, lineByte, lineBytes, markBytes, countsAs};
+ghost use Rattle.bench_run.specs.BenchRuns.{doneMask};
 ghost use Rattle.bench_run.specs.BenchRuns.{lent, runAnswer, runReport, linesAfter, marksAfter};
 
 // The message that stands at a place.
@@ -132,7 +132,7 @@ fn line_byte(answer: BenchAnswer) -> u8
 
 // 1 for a call that was not refused.
 fn counts_as(answer: BenchAnswer) -> usize
-    ensures { λ r. ⌜ (r ≡ counts answer) × (r ≤ 1) ⌝ }
+    ensures { λ r. ⌜ (r ≡ countsAs answer) × (r ≤ 1) ⌝ }
 {
     match answer {
         BenchAnswer::Line(_) => 1,
@@ -148,8 +148,8 @@ fn bit_of(b: bool) -> u16
 }
 
 // Which stations are DONE as one number, station i in bit i.
-fn mask_of(done: [bool; 16]) -> u16
-    ensures { λ r. ⌜ r ≡ maskOf done ⌝ }
+fn done_mask(done: [bool; 16]) -> u16
+    ensures { λ r. ⌜ r ≡ doneMask done ⌝ }
 {
     let mut mask: u16 = 0;
     let mut left: usize = 16;
@@ -190,7 +190,7 @@ fn run_all(
         let answer = turn.answer;
         let done = turn.done;
         lines[j] = line_byte(answer);
-        let mask = mask_of(done);
+        let mask = done_mask(done);
         marks[2 * j] = (mask / 256 % 256) as u8;
         marks[2 * j + 1] = (mask % 256) as u8;
         count += counts_as(answer);

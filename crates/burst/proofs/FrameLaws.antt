@@ -1,11 +1,11 @@
 -- Laws of frames and bursts.
 --
---     bits-length, pairs-length, frame-length, burst-length     how long each list is
+--     bits-length, pairs-length                                 how long each list is
+--     frame-length, burst-length                                FrameLengths, BurstLengths
 --     bits-below, pairs-below, frame-halves, burst-halves       every entry is 0 or 1
 --     bits-split, value-of-bits                                 the bits of a number in two parts; the number read back
 --     frames-one-to-one, no-frame-begins-another                FramesOneToOne, NoFrameBeginsAnother
 use mathlib.Core.Path.{_≡_, refl, sym, ap, ap₂, subst, _∙_}
-use mathlib.Core.Bool.{true}
 use mathlib.Core.List.{List, [], _∷_, _++_, append-nil}
 use Prim.Native.Nat.{ℕ, zero, suc, _+_, _-_, _*_, _/_, _%_, _^_, _≤_, _<_}
 use native.Mathlib.Nat.{suc-add, zero-add, add-comm, mod-eq-of-lt, mod-lt, mod-one, suc-ne-zero}
@@ -17,7 +17,7 @@ use lib.Pow.{shr-shr, mod-pow-add}
 use lib.ListN.{length, getD, take, drop, length-append, List·getD-append}
 use lib.Seq.{take-at, getD-append-add}
 use Rattle.message.specs.Codes.{codeOf}
-use Rattle.message.specs.Messages.{messageOk, BytesOk}
+use Rattle.message.specs.Messages.{BytesOk}
 use Rattle.message.specs.Words.{wordOf, bitCount, nine, standardOf}
 use Rattle.message.specs.declared.Message.{Message}
 use Rattle.message.specs.declared.Message.the-variants.{Address, Function as Command, Extended}
@@ -25,7 +25,7 @@ use Rattle.message.specs.declared.word.Reading.the-variants.{Message as Says, L
 use Rattle.message.proofs.CodeLaws.{code-below}
 use Rattle.message.proofs.WordLaws.{word-below, words-one-to-one, head-of-extended, standard-of-head, standard-of-address, standard-of-function}
 use Rattle.message.specs.declared.word.Word.{Word}
-use Rattle.burst.specs.Frames.{bitsOf, pairsOf, frameOf, frameLength, burstOf, burstLength, FramesOneToOne, NoFrameBeginsAnother}
+use Rattle.burst.specs.Frames.{bitsOf, pairsOf, frameOf, frameLength, burstOf, FrameLengths, BurstLengths, FramesOneToOne, NoFrameBeginsAnother}
 
 -- ---- lengths
 
@@ -39,14 +39,14 @@ unfolding pairsOf
 pairs-length [] = refl
 pairs-length (b ∷ bs) = let e = pairs-length bs in omega arith
 
-pub frame-length : (m : Message) → length (frameOf m) ≡ frameLength m
+pub frame-length : FrameLengths
 unfolding frameOf
 frame-length (Address h u) = omega (arith, pairs-length (bitsOf 9 (wordOf (Address h u))), bits-length 9 (wordOf (Address h u)))
 frame-length (Command h f) = omega (arith, pairs-length (bitsOf 9 (wordOf (Command h f))), bits-length 9 (wordOf (Command h f)))
 frame-length (Extended h u d c) =
     omega (arith, pairs-length (bitsOf 29 (wordOf (Extended h u d c))), bits-length 29 (wordOf (Extended h u d c)))
 
-pub burst-length : (m : Message) → length (burstOf m) ≡ burstLength m
+pub burst-length : BurstLengths
 unfolding burstOf
 burst-length m = length-append (frameOf m) (frameOf m) ∙ ap₂ (λ (a b : ℕ). a + b) (frame-length m) (frame-length m)
 

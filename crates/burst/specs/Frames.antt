@@ -3,6 +3,7 @@ use Prim.Native.Nat.{ℕ, zero, suc, _+_, _-_, _/_, _%_, _^_}
 use mathlib.Core.Path.{_≡_}
 use mathlib.Core.Bool.{true}
 use mathlib.Core.List.{List, [], _∷_, _++_}
+use lib.ListN.{length}
 use Rattle.message.specs.declared.Message.{Message}
 use Rattle.message.specs.declared.Message.the-variants.{Address, Function as Command, Extended}
 use Rattle.message.specs.Messages.{messageOk, BytesOk}
@@ -35,9 +36,16 @@ burstOf m = frameOf m ++ frameOf m
 abbrev pub burstLength : Message → ℕ
 burstLength m = frameLength m + frameLength m
 
--- ---- frames tell messages apart: proofs/FrameLaws.antt
+-- ---- what holds of every message: proofs/FrameLaws.antt
 
--- two valid messages with equal frames are equal
+-- frames and bursts have these lengths
+abbrev pub FrameLengths : Type 0
+FrameLengths = (m : Message) → length (frameOf m) ≡ frameLength m
+
+abbrev pub BurstLengths : Type 0
+BurstLengths = (m : Message) → length (burstOf m) ≡ burstLength m
+
+-- frames tell messages apart: two valid messages with equal frames are equal
 abbrev pub FramesOneToOne : Type 0
 FramesOneToOne = (m n : Message) → messageOk m ≡ true → BytesOk m → messageOk n ≡ true → BytesOk n → frameOf m ≡ frameOf n → m ≡ n
 

@@ -13,17 +13,17 @@ use Rattle.message.specs.Messages.{messageOk}
 use Rattle.message.specs.declared.Message.{Message}
 use Rattle.burst.specs.Frames.{burstOf, burstLength}
 
--- how many bits a frame carries
+-- whether a frame carries so many bits
 abbrev pub frameBits : ℕ → Bool
 frameBits n = eqb n 9 || eqb n 29
 
 -- "buffer below the 44 or 124 of this burst"
-abbrev pub roomCauses : Message → ℕ → List Cause
-roomCauses m room = unless (leb (burstLength m) room) refusal.Short ∷ []
+abbrev pub shortCauses : Message → ℕ → List Cause
+shortCauses m room = unless (leb (burstLength m) room) refusal.Short ∷ []
 
 -- "house or unit above 15", and that
 abbrev pub burstCauses : Message → ℕ → List Cause
-burstCauses m room = unless (messageOk m) refusal.Message ∷ roomCauses m room
+burstCauses m room = unless (messageOk m) refusal.Message ∷ shortCauses m room
 
 -- for a message and a buffer's length: the count is that of the half-cycles written
 unfoldable pub burstAnswer : Message → ℕ → CountAnswer

@@ -16,10 +16,10 @@ ghost use Rattle.ground.specs.declared.CountAnswer.the-variants.{Done, Refused}
 ghost use Rattle.message.specs.Words.{wordIn};
 ghost use Rattle.message.specs.declared.Message.{Message};
 ghost use Rattle.burst.specs.Frames.{bitsOf, pairsOf, burstOf, burstLength};
-ghost use Rattle.burst.specs.Writer.{frameBits, roomCauses, written, burstCauses, burstAnswer, bufferAfter};
+ghost use Rattle.burst.specs.Writer.{frameBits, shortCauses, written, burstCauses, burstAnswer, bufferAfter};
 
 // Puts the n lowest bits of a word into the array from `at` on, highest first, each followed by its complement.
-fn put_pairs(a: [u8; 124], at: usize, word: u32, n: usize) -> [u8; 124]
+fn put_pairs(a: [u8; 124], at: usize, word: u32, n: u32) -> [u8; 124]
     requires { ⌜ (n ≤ 32) × (at + 2 * n ≤ 124) ⌝ }
     ensures { λ r. ⌜ r ≡ sets a at (pairsOf (bitsOf n word)) ⌝ }
 {
@@ -37,7 +37,7 @@ fn put_pairs(a: [u8; 124], at: usize, word: u32, n: usize) -> [u8; 124]
 }
 
 // How many bits: 9 or 29, told apart here so that the loops below have one of two lengths.
-fn bit_count(w: Word) -> usize
+fn bit_count(w: Word) -> u32
     requires { ⌜ frameBits (w .count) ≡ true ⌝ }
     ensures { λ r. ⌜ r ≡ w .count ⌝ }
 {
@@ -75,7 +75,7 @@ fn frame_length(w: Word) -> usize
     requires { ⌜ (w .count ≤ 29) × (frameBits (w .count) ≡ true) ⌝ }
     ensures { λ r. ⌜ r ≡ 4 + (w .count + w .count) ⌝ }
 {
-    let bits = bit_count(w);
+    let bits = bit_count(w) as usize;
     4 + (bits + bits)
 }
 
@@ -102,8 +102,9 @@ fn copy_front(a: [u8; 124], count: usize, buf: &mut [u8])
 // Writes the burst of these bits to the buffer's front, if it has room: what is left of the writer once a message has its bits.
 fn write_word(w: Word, buf: &mut [u8]) -> CountAnswer
     requires { ⌜ (w .count ≤ 29) × (frameBits (w .count) ≡ true) ⌝ }
-    ensures { λ r. ⌜ ((m : Message) → w ≡ wordIn m → r ≡ judged (roomCauses m (length (now (buf .entry)))) (Done (burstLength m)) Refused) ⌝ }
-    ensures { λ r. ⌜ ((m : Message) → w ≡ wordIn m → now (buf .exit) ≡ judged (roomCauses m (length (now (buf .entry)))) (written m (now (buf .entry))) (λ why. now (buf .entry))) ⌝ }
+    ensures { λ r. ⌜ ((m : Message) → w ≡ wordIn m → r ≡ judged (shortCauses m (length (now (buf .entry)))) (Done (burstLength m)) Refused) ⌝ }
+    ensures { λ r. ⌜ ((m : Message) → w ≡ wordIn m → now (buf .exit)
+        ≡ judged (shortCauses m (length (now (buf .entry)))) (written m (now (buf .entry))) (λ why. now (buf .entry))) ⌝ }
 {
     let f = frame_length(w);
     let n = f + f;

@@ -13,9 +13,11 @@ use native.Mathlib.Omega.{arith}
 use borrow.Author.Tests.{leb-true, not-true, not-false, le-leb, lt-leb, lt-ltb, le-ltb, eq-eqb, ne-eqb}
 use lib.Dec.{eqb, leb, eqb·suc-zero}
 use Rattle.ground.specs.Choice.{pick}
-use Rattle.ground.specs.Refusals.{refusalNumber, Cause, when, unless, judged, numberGiven, applies, causeNumber, lower, lowest, allFrom, rising, LowestGiven, SomeNumber}
+use Rattle.ground.specs.Refusals.{refusalNumber, Cause, when, unless, judged, numberGiven, applies}
+use Rattle.ground.specs.Refusals.{causeNumber, lower, lowest, allFrom, rising, LowestGiven, SomeNumber}
 use Rattle.ground.specs.declared.Refusal.{Refusal}
-use Rattle.ground.specs.declared.Refusal.the-variants.{Table, Message, Record, NotCarried, Half, State, Draw, Busy, Short, RfLength, Complement, Code, Fault}
+use Rattle.ground.specs.declared.Refusal.the-variants.{Table, Message, Record, NotCarried, Half, State, Draw}
+use Rattle.ground.specs.declared.Refusal.the-variants.{Busy, Short, RfLength, Complement, Code, Fault}
 
 -- ---- an answer, cause by cause
 

@@ -8,7 +8,8 @@ use Rattle.ground.specs.Choice.{pick}
 use Rattle.ground.specs.declared.CountAnswer.{CountAnswer}
 use Rattle.ground.specs.declared.CountAnswer.the-variants.{Done, Refused}
 use Rattle.ground.specs.declared.Refusal.{Refusal}
-use Rattle.ground.specs.declared.Refusal.the-variants.{Table, Message, Record, NotCarried, Half, State, Draw, Busy, Short, RfLength, Complement, Code, Fault}
+use Rattle.ground.specs.declared.Refusal.the-variants.{Table, Message, Record, NotCarried, Half, State, Draw}
+use Rattle.ground.specs.declared.Refusal.the-variants.{Busy, Short, RfLength, Complement, Code, Fault}
 
 -- 01's table, but for 10 and 11, which are "receiver events, not refusals"
 abbrev pub refusalNumber : Refusal → ℕ

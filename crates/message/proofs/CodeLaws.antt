@@ -17,14 +17,16 @@ use lib.ListN.{List·getD-eq-default}
 use Rattle.ground.proofs.Choices.{both}
 use lib.Dec.{eqb, ltb, lit<}
 use Rattle.ground.specs.Text.{bytesOf, bytesFrom}
-use Rattle.message.specs.Codes.{lineCodes, placeIn, codeOf, numberOf, functionNames, nameAt, functionCode, meanings, meaningOf, functionRead, functionAnswer, isFunction, CodesOneToOne, NamesOneToOne, CodesReadBack}
+use Rattle.message.specs.Codes.{lineCodes, placeIn, codeOf, numberOf, functionNames, nameAt}
+use Rattle.message.specs.Codes.{functionCode, meanings, meaningOf, functionRead, functionAnswer}
+use Rattle.message.specs.Codes.{CodesOneToOne, NamesOneToOne, CodesReadBack}
 use Rattle.message.specs.Messages.{sameMessage, SameIsEqual}
 use Rattle.message.specs.declared.Message.{Message}
 use Rattle.message.specs.declared.Message.the-variants.{Address, Function as Command, Extended as Longer}
-use Rattle.message.specs.declared.codes.FunctionRead.{FunctionRead}
-use Rattle.message.specs.declared.codes.FunctionRead.the-variants.{Function as Is, Refused}
+use Rattle.message.specs.declared.codes.FunctionRead.the-variants.{Function as Is}
 use Rattle.message.specs.declared.Function.{Function}
-use Rattle.message.specs.declared.Function.the-variants.{AllUnitsOff, AllLightsOn, On, Off, Dim, Bright, AllLightsOff, HailRequest, HailAcknowledge, StatusOn, StatusOff, StatusRequest}
+use Rattle.message.specs.declared.Function.the-variants.{AllUnitsOff, AllLightsOn, On, Off, Dim, Bright}
+use Rattle.message.specs.declared.Function.the-variants.{AllLightsOff, HailRequest, HailAcknowledge, StatusOn, StatusOff, StatusRequest}
 use Rattle.message.specs.declared.codes.Meaning.{Meaning}
 use Rattle.message.specs.declared.codes.Meaning.the-variants.{Function as Carries, Extended, Unsupported}
 use Rattle.message.proofs.Tables.{everyFrom, every-at, ReadsBack, read-back, one-to-one, entry-below}
@@ -151,7 +153,7 @@ within c f t = go (decLt c 16)
     go (no h) =
         let past : 16 ≤ c = omega arith in
         let p : Unsupported ≡ Carries f = sym (List·getD-eq-default meanings Unsupported past) ∙ t in
-        absurd (false≢true (ap isFunction p))
+        absurd (false≢true cc)
 
 pub codes-read-back : CodesReadBack
 unfolding functionAnswer

@@ -13,7 +13,8 @@ use lib.Dec.{eqb, ltb}
 use Rattle.ground.specs.Choice.{pick}
 use Rattle.message.specs.Codes.{codeOf, functionCode, meanings, meaningOf}
 use Rattle.message.specs.Messages.{messageOk, BytesOk}
-use Rattle.message.specs.Words.{nine, wordOf, wordIn, bitCount, standardOf, standardAnswer, extendedOf, extendedAnswer, readWord, WordsReadBack, WordsOneToOne}
+use Rattle.message.specs.Words.{nine, wordOf, wordIn, bitCount, standardOf, standardAnswer}
+use Rattle.message.specs.Words.{extendedOf, extendedAnswer, readWord, WordsReadBack, WordsOneToOne}
 use Rattle.message.specs.declared.Function.{Function}
 use Rattle.message.specs.declared.Message.{Message}
 use Rattle.message.specs.declared.Message.the-variants.{Address, Function as Command, Extended}
@@ -69,7 +70,8 @@ standard-of-function h f t =
       meaning-of-function f,
     )
 
-pub extended-of-word : (h u d c : ℕ) → messageOk (Extended h u d c) ≡ true → BytesOk (Extended h u d c) → extendedOf (wordOf (Extended h u d c)) ≡ Extended h u d c
+pub extended-of-word : (h u d c : ℕ) → messageOk (Extended h u d c) ≡ true → BytesOk (Extended h u d c) → extendedOf (wordOf
+    (Extended h u d c)) ≡ Extended h u d c
 extended-of-word h u d c t b =
     let p = both-below h u t in
     let w = wordOf (Extended h u d c) in

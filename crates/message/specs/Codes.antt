@@ -10,7 +10,8 @@ use Rattle.ground.specs.Text.{bytesOf}
 use Rattle.ground.specs.Refusals.{Report, reports, refuses, Cause, unless}
 use Rattle.ground.specs.declared.Refusal.the-variants as refusal
 use Rattle.message.specs.declared.Function.{Function}
-use Rattle.message.specs.declared.Function.the-variants.{AllUnitsOff, AllLightsOn, On, Off, Dim, Bright, AllLightsOff, HailRequest, HailAcknowledge, StatusOn, StatusOff, StatusRequest}
+use Rattle.message.specs.declared.Function.the-variants.{AllUnitsOff, AllLightsOn, On, Off, Dim, Bright}
+use Rattle.message.specs.declared.Function.the-variants.{AllLightsOff, HailRequest, HailAcknowledge, StatusOn, StatusOff, StatusRequest}
 use Rattle.message.specs.declared.codes.Meaning.{Meaning}
 use Rattle.message.specs.declared.codes.Meaning.the-variants.{Function as Carries, Extended, Unsupported}
 use Rattle.message.specs.declared.codes.FunctionRead.{FunctionRead}
@@ -68,13 +69,12 @@ functionRead Unsupported = Refused refusal.Message
 unfoldable pub functionAnswer : ℕ → FunctionRead
 functionAnswer c = functionRead (meaningOf c)
 
-abbrev pub isFunction : Meaning → Bool
-isFunction (Carries f) = true
-isFunction Extended = false
-isFunction Unsupported = false
+abbrev pub isFunction : FunctionRead → Bool
+isFunction (Is f) = true
+isFunction (Refused why) = false
 
 abbrev pub functionCauses : ℕ → List Cause
-functionCauses c = unless (isFunction (meaningOf c)) refusal.Message ∷ []
+functionCauses c = unless (isFunction (functionAnswer c)) refusal.Message ∷ []
 
 -- 01's number and value for each answer
 abbrev pub functionReport : FunctionRead → Report Function

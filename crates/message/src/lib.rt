@@ -42,19 +42,19 @@ pub enum Message {
     },
 }
 
-// Whether the house and the unit are 0 to 15.
+// Whether the house and the unit are 0 to 15. Tested by branches, so that the compiler can use both bounds in the caller.
 pub fn valid(m: Message) -> bool
     ensures { λ r. ⌜ r ≡ messageOk m ⌝ }
 {
     match m {
-        Message::Address { house, unit } => (house <= 15) & (unit <= 15),
+        Message::Address { house, unit } => if house <= 15 { unit <= 15 } else { false },
         Message::Function { house, function: _ } => house <= 15,
         Message::Extended {
             house,
             unit,
             data: _,
             command: _,
-        } => (house <= 15) & (unit <= 15),
+        } => if house <= 15 { unit <= 15 } else { false },
     }
 }
 

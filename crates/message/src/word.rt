@@ -10,7 +10,8 @@ use ground::Refusal;
 ghost use mathlib.Core.Path.{_≡_};
 ghost use mathlib.Core.List.{_∷_, []};
 ghost use Rattle.ground.specs.Refusals.{judged, reports, refuses, refusalNumber};
-ghost use Rattle.message.specs.Words.{wordOf, wordIn, nine, standardOf, extendedOf, wordCauses, wordAnswer, wordReport, standardCauses, standardAnswer, extendedCauses, extendedAnswer, readingReport};
+ghost use Rattle.message.specs.Words.{wordOf, wordIn, nine, standardOf, extendedOf, wordCauses, wordAnswer};
+ghost use Rattle.message.specs.Words.{wordReport, standardCauses, standardAnswer, extendedCauses, extendedAnswer, readingReport};
 
 // A frame's bits, highest first, as one number, and how many there are: 9 or 29.
 pub struct Word {

@@ -1,1 +1,4 @@
 pub mod ReceiverLaws
+pub mod ReadBack
+pub mod RunLaws
+pub mod Stretches

@@ -5,7 +5,7 @@
 --     at-most, valid-parts               what holds of a receiver that is not refused
 --     nineOk, nine-ok                    what nine bits say, judged by their numbers; one computed test over the table of meanings
 --     read-nine, read-all, last-code     a complete frame's bits are not refused
---     lowest-first, fresh-is-valid, stays-valid, gives-valid      LowestFirst, FreshIsValid, StaysValid and GivesValid
+--     step-lowest, fresh-is-valid, stays-valid, gives-valid      StepLowest, FreshIsValid, StaysValid and GivesValid
 use mathlib.Core.Path.{_≡_, refl, sym, ap, _∙_}
 use mathlib.Core.Bool.{Bool, true, false, false≢true, _&&_, not, and-eq-true-iff, and-false}
 use Prim.Native.Nat.{ℕ, _+_, _-_, _*_, _/_, _%_, _^_, _≤_, _<_}
@@ -35,7 +35,7 @@ use Rattle.receiver.specs.declared.Event.the-variants.{Nothing, Message 
 use Rattle.receiver.specs.declared.Heard.{Heard}
 use Rattle.receiver.specs.Receivers.{shifted, hunting, says, huntOf, awaitOf, isRepeat, completeOf, outcomeOf, pairOf, bitsAfter, readOf, takesOf}
 use Rattle.receiver.specs.Receivers.{eventNumber, pairsOk, givenOk, receiverOk, stepCauses, stepOf, unsupportedCode, brokenNumber}
-use Rattle.receiver.specs.Receivers.{LowestFirst, FreshIsValid, StaysValid, GivesValid}
+use Rattle.receiver.specs.Receivers.{StepLowest, FreshIsValid, StaysValid, GivesValid}
 
 -- ---- the ways in which a half-cycle is taken
 
@@ -167,8 +167,8 @@ module _ (r : Receiver) (h : ℕ) where
       judged-map (λ (o : Heard). eventNumber (o .event)) (takesOf r h) (λ (why : Refusal). says (Refused why) r) (stepCauses r h)
       ∙ ap (λ (n : ℕ). judged (stepCauses r h) n refusalNumber) (number-taken (taken r h))
 
-pub lowest-first : LowestFirst
-lowest-first r h = lowest-given (stepCauses r h) refl
+pub step-lowest : StepLowest
+step-lowest r h = lowest-given (stepCauses r h) refl
 
 -- ---- what makes a receiver valid
 

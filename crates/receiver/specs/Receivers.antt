@@ -140,8 +140,8 @@ brokenNumber r h = pick (equalPair r h) 10 (pick (unsupportedCode r) 11 0)
 -- ---- what holds of every call: proofs/ReceiverLaws.antt
 
 -- "Within one routine the lowest number that applies is given."
-abbrev pub LowestFirst : Type 0
-LowestFirst = (r : Receiver) (h : ℕ) → lowest (stepCauses r h) ≡ numberGiven (stepCauses r h)
+abbrev pub StepLowest : Type 0
+StepLowest = (r : Receiver) (h : ℕ) → lowest (stepCauses r h) ≡ numberGiven (stepCauses r h)
 
 -- a receiver that is not refused stays so, whatever half-cycle comes; a fresh one is not refused
 abbrev pub FreshIsValid : Type 0

@@ -14,7 +14,9 @@ ghost use Rattle.ground.specs.Refusals.{refusalNumber, judged};
 ghost use Rattle.receiver.specs.Receivers.{eventNumber, freshReceiver, pairsOk, givenOk, receiverOk, stepCauses, stepOf, brokenNumber};
 ghost use Rattle.receiver.specs.Receivers.{shifted, hunting, says, huntOf, awaitOf, isRepeat, completeOf, readingOf, pairOf, readOf, takesOf};
 
-// The message given with the frame before, if it is its repeat that may come next.
+pub mod lent;
+
+// A message or none: that given with the frame before, whose repeat may come next, or that which an event gives.
 pub enum Given {
     No,
     Yes(Message),
@@ -68,6 +70,17 @@ pub fn step(r: Receiver, half: u8) -> Heard
     }
     if !valid(r) {
         return saying(Event::Refused(Refusal::State), r);
+    }
+    takes(r, half)
+}
+
+// The same for a receiver that the caller has judged, so that a run over many half-cycles judges it once.
+pub(crate) fn step_valid(r: Receiver, half: u8) -> Heard
+    requires { ⌜ receiverOk r ≡ true ⌝ }
+    ensures { λ o. ⌜ o ≡ stepOf r half ⌝ }
+{
+    if half > 1 {
+        return saying(Event::Refused(Refusal::Half), r);
     }
     takes(r, half)
 }

@@ -16,7 +16,8 @@ use Rattle.receiver.specs.declared.Receiver.{Receiver}
 use Rattle.receiver.specs.declared.Event.{Event}
 use Rattle.receiver.specs.declared.Event.the-variants.{Nothing}
 use Rattle.receiver_laws.specs.Whole.{frameEvents}
-use Rattle.receiver_laws.specs.Inversion.{givenBy, told}
+use Rattle.receiver.specs.Hearing.{givenBy}
+use Rattle.receiver_laws.specs.Inversion.{asList, told}
 use Rattle.receiver_laws.proofs.Runs.{Run, events-append}
 use Rattle.receiver_laws.proofs.Hush.{Hush, hush-run}
 
@@ -26,18 +27,18 @@ tells r hs = told (eventsOf r hs)
 told-append : (es fs : List Event) → told (es ++ fs) ≡ told es ++ told fs
 unfolding told
 told-append [] fs = refl
-told-append (e ∷ es) fs = ap (λ (ms : List Message). givenBy e ++ ms) (told-append es fs) ∙ sym (append-assoc (givenBy e) (told es) (told fs))
+told-append (e ∷ es) fs = ap (λ (ms : List Message). asList (givenBy e) ++ ms) (told-append es fs) ∙ sym (append-assoc (asList (givenBy e)) (told es) (told fs))
 
 pub told-nothing : (n : ℕ) → told (replicate n Nothing) ≡ []
 unfolding told
 told-nothing zero = refl
 told-nothing (suc n) = told-nothing n
 
-pub told-frame : (m : Message) (e : Event) → told (frameEvents m e) ≡ givenBy e
+pub told-frame : (m : Message) (e : Event) → told (frameEvents m e) ≡ asList (givenBy e)
 unfolding frameEvents told
 told-frame m e =
     let n = frameLength m - 1 in
-    told-append (replicate n Nothing) (e ∷ []) ∙ ap₂ _++_ (told-nothing n) (append-nil (givenBy e))
+    told-append (replicate n Nothing) (e ∷ []) ∙ ap₂ _++_ (told-nothing n) (append-nil (asList (givenBy e)))
 
 pub tells-run : {r s : Receiver} {hs : List ℕ} {es : List Event} (ks : List ℕ) → Run r hs es s → tells r (hs ++ ks) ≡ told es ++ tells s ks
 tells-run {r} {s} {hs} {es} ks u =

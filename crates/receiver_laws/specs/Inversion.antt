@@ -10,28 +10,24 @@ use Rattle.message.specs.Messages.{messageOk, BytesOk}
 use Rattle.message.specs.declared.Message.{Message}
 use Rattle.burst.specs.Frames.{burstOf}
 use Rattle.receiver.specs.Receivers.{freshReceiver}
-use Rattle.receiver.specs.Hearing.{eventsOf}
+use Rattle.receiver.specs.Hearing.{eventsOf, givenBy}
 use Rattle.receiver.specs.declared.Event.{Event}
-use Rattle.receiver.specs.declared.Event.the-variants.{Nothing, Message as Gives, Repeat, BrokenPair, BrokenUnsupported, Refused}
+use Rattle.receiver.specs.declared.Given.{Given}
+use Rattle.receiver.specs.declared.Given.the-variants.{No, Yes}
 use Rattle.receiver_laws.specs.Whole.{clear}
 
 -- the half-cycle at i inverted, the others as they are
 unfoldable pub inverted : ℕ → List ℕ → List ℕ
 inverted i hs = set hs i (1 - getD hs i 0)
 
--- the message of a MESSAGE
-abbrev pub givenBy : Event → List Message
-givenBy Nothing = []
-givenBy (Gives m) = m ∷ []
-givenBy Repeat = []
-givenBy BrokenPair = []
-givenBy BrokenUnsupported = []
-givenBy (Refused why) = []
-
 -- the messages given, one after the other
+abbrev pub asList : Given → List Message
+asList No = []
+asList (Yes m) = m ∷ []
+
 unfoldable pub told : List Event → List Message
 told [] = []
-told (e ∷ es) = givenBy e ++ told es
+told (e ∷ es) = asList (givenBy e) ++ told es
 
 -- "MESSAGE at most once, and only with that burst's message"
 abbrev pub AtMostOnce : Message → List Message → Type 0

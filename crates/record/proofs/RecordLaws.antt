@@ -5,8 +5,9 @@
 --     relevel-good, readdress-good, regroup-good                                   the three ways in which a record changes
 --     joined-good, left-good, obeyed-good, acted-good
 --     record-stays-valid, house-stays-valid, absent-stays                          RecordStaysValid, HouseStaysValid, AbsentStays
-use mathlib.Core.Path.{_≡_, refl}
-use mathlib.Core.Bool.{Bool, true, false, not, _&&_, _||_, and-eq-true-iff, or-true, and-true}
+--     groups-kept, rest-kept, level-kept, addressed-kept                           what an act leaves of a record: GroupsKept, RestKept
+use mathlib.Core.Path.{_≡_, refl, sym, ap}
+use mathlib.Core.Bool.{Bool, true, false, not, _&&_, _||_, and-eq-true-iff, or-true, and-true, true≢false}
 use Prim.Native.Nat.{ℕ, zero, suc, _-_, _≤_, _<_, min}
 use native.Mathlib.Omega.{arith}
 use borrow.Author.Tests.{leb-true, eqb-true, le-leb}
@@ -25,6 +26,7 @@ use Rattle.record.specs.declared.House.{House}
 use Rattle.record.specs.Layout.{present, lamp, appliance, member, preset, maskOf, withLevel, withAddressed, regroup}
 use Rattle.record.specs.ModuleTable.{levelOk, presetOk, allZeros, recordOk, houseOk, relevel, lit, dimmed, brightened, addressed, obeyed}
 use Rattle.record.specs.ModuleTable.{levelFor, joined, left, acted, stepRecord, houseAfter}
+use Rattle.record.specs.Parts.{keepsGroups, groupsOf, GroupsKept, RestKept}
 use Rattle.record.specs.Statements.{RecordStaysValid, HouseStaysValid, AbsentStays}
 
 -- ---- the rules, one by one
@@ -268,6 +270,66 @@ record-stays-valid a own n r e = go (present r) refl
     go : (b : Bool) → present r ≡ b → recordOk (pick b (acted a own n r) r) ≡ true
     go true here = good-is-ok (acted a own n r) (acted-good r (good r e) here a own n)
     go false gone = e
+
+-- ---- the two parts of a record
+
+obeyed-groups : (f : Function) (r : Record) → groupsOf r (obeyed f r) ≡ obeyed f r
+obeyed-groups On r = refl
+obeyed-groups Off r = refl
+obeyed-groups Dim r = refl
+obeyed-groups Bright r = refl
+obeyed-groups AllLightsOn r = refl
+obeyed-groups AllLightsOff r = refl
+obeyed-groups AllUnitsOff r = refl
+obeyed-groups HailRequest r = refl
+obeyed-groups HailAcknowledge r = refl
+obeyed-groups StatusOn r = refl
+obeyed-groups StatusOff r = refl
+obeyed-groups StatusRequest r = refl
+
+-- a part of a record where no module is there, or else of what the act makes of it
+pub part-after : {A : Type 0} (b : Bool) (f : Record → A) (s r : Record) → pick b (f r) (f s) ≡ f (pick (not b) s r)
+part-after true f s r = refl
+part-after false f s r = refl
+
+pub groups-kept : GroupsKept
+groups-kept Nothing own n r e = refl
+groups-kept (Address u) own n r e = refl
+groups-kept (Obey f) own n r e = obeyed-groups f r
+groups-kept (Join u g) own n r e = absurd (true≢false (sym e))
+groups-kept (Level u b) own n r e = refl
+groups-kept (JoinAt u g b) own n r e = absurd (true≢false (sym e))
+groups-kept UnitsOn own n r e = refl
+groups-kept UnitsOff own n r e = refl
+groups-kept (Leave u gs) own n r e = absurd (true≢false (sym e))
+groups-kept (LeaveHouse gs) own n r e = absurd (true≢false (sym e))
+groups-kept (Execute g) own n r e = refl
+groups-kept (GroupOff g) own n r e = refl
+groups-kept (GroupDim g) own n r e = refl
+groups-kept (GroupBright g) own n r e = refl
+
+pub rest-kept : RestKept
+unfolding joined left
+rest-kept Nothing own n r e = absurd (true≢false e)
+rest-kept (Address u) own n r e = absurd (true≢false e)
+rest-kept (Obey f) own n r e = absurd (true≢false e)
+rest-kept (Join u g) own n r e = pick-both (λ (s : Record). groupsOf s r ≡ s) (eqb n u) _ r refl refl
+rest-kept (Level u b) own n r e = absurd (true≢false e)
+rest-kept (JoinAt u g b) own n r e = pick-both (λ (s : Record). groupsOf s r ≡ s) (eqb n u) _ r refl refl
+rest-kept UnitsOn own n r e = absurd (true≢false e)
+rest-kept UnitsOff own n r e = absurd (true≢false e)
+rest-kept (Leave u gs) own n r e = pick-both (λ (s : Record). groupsOf s r ≡ s) (eqb n u) _ r refl refl
+rest-kept (LeaveHouse gs) own n r e = refl
+rest-kept (Execute g) own n r e = absurd (true≢false e)
+rest-kept (GroupOff g) own n r e = absurd (true≢false e)
+rest-kept (GroupDim g) own n r e = absurd (true≢false e)
+rest-kept (GroupBright g) own n r e = absurd (true≢false e)
+
+pub level-kept : (a : Act) (own : House) (n : ℕ) (r : Record) → keepsGroups a ≡ false → acted a own n r .level ≡ r .level
+level-kept a own n r e = sym (ap (λ (s : Record). s .level) (rest-kept a own n r e))
+
+pub addressed-kept : (a : Act) (own : House) (n : ℕ) (r : Record) → keepsGroups a ≡ false → acted a own n r .addressed ≡ r .addressed
+addressed-kept a own n r e = sym (ap (λ (s : Record). s .addressed) (rest-kept a own n r e))
 
 -- ---- a house's own bytes
 

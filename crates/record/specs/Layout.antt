@@ -47,11 +47,11 @@ recordAt t i =
       preset3 = getD t (at + 7) 0;
     }
 
-abbrev pub bytesOf : Record → List ℕ
-bytesOf r = r .kind ∷ r .level ∷ r .addressed ∷ r .mask ∷ r .preset0 ∷ r .preset1 ∷ r .preset2 ∷ r .preset3 ∷ []
+abbrev pub recordBytes : Record → List ℕ
+recordBytes r = r .kind ∷ r .level ∷ r .addressed ∷ r .mask ∷ r .preset0 ∷ r .preset1 ∷ r .preset2 ∷ r .preset3 ∷ []
 
 unfoldable pub put : List ℕ → ℕ → Record → List ℕ
-put t i r = sets t (i * RECORD-BYTES) (bytesOf r)
+put t i r = sets t (i * RECORD-BYTES) (recordBytes r)
 
 -- "one "command heard" byte per house": the bytes of house h beside its records', and such bytes put there
 unfoldable pub houseAt : List ℕ → ℕ → House

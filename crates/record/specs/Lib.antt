@@ -1,3 +1,4 @@
 pub mod Layout
 pub mod ModuleTable
+pub mod Parts
 pub mod Statements

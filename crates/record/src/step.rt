@@ -1,4 +1,5 @@
-// What an act does to one record, and to a house's own bytes.
+// What an act does to one record, part by part, and to a house's own bytes. Each part has a function of its own, so that a caller need not
+// store the others.
 use crate::House;
 use crate::Record;
 use crate::choose;
@@ -10,45 +11,10 @@ ghost use mathlib.Core.Path.{_≡_};
 ghost use mathlib.Core.Bool.{Bool};
 ghost use Prim.Native.Nat.{_≤_, min};
 ghost use Rattle.ground.specs.Choice.{pick};
-ghost use Rattle.record.specs.Layout.{maskOf, withLevel, withAddressed};
-ghost use Rattle.record.specs.ModuleTable.{relevel, lit, dimmed, brightened, obeyed, levelFor, joined, left, acted, stepRecord, heardAfter, houseAfter};
-
-fn at_level(x: u8, r: Record) -> Record
-    ensures { λ s. ⌜ s ≡ withLevel x r ⌝ }
-{
-    Record {
-        kind: r.kind,
-        level: x,
-        addressed: r.addressed,
-        mask: r.mask,
-        preset0: r.preset0,
-        preset1: r.preset1,
-        preset2: r.preset2,
-        preset3: r.preset3,
-    }
-}
-
-// The record at level x where the test holds.
-fn level_if(b: bool, x: u8, r: Record) -> Record
-    ensures { λ s. ⌜ s ≡ relevel b x r ⌝ }
-{
-    at_level(choose(b, x, r.level), r)
-}
-
-fn addressed_as(x: u8, r: Record) -> Record
-    ensures { λ s. ⌜ s ≡ withAddressed x r ⌝ }
-{
-    Record {
-        kind: r.kind,
-        level: r.level,
-        addressed: x,
-        mask: r.mask,
-        preset0: r.preset0,
-        preset1: r.preset1,
-        preset2: r.preset2,
-        preset3: r.preset3,
-    }
-}
+ghost use Rattle.record.specs.declared.House.{House};
+ghost use Rattle.record.specs.Layout.{maskOf};
+ghost use Rattle.record.specs.ModuleTable.{lit, dimmed, brightened, obeyed, levelFor, joined, left, acted, stepRecord, heardAfter, houseAfter};
+ghost use Rattle.record.specs.Parts.{keepsGroups, groupsOf};
 
 // A dark level as 63, and a lit one as it is.
 fn lit_level(l: u8) -> u8
@@ -71,28 +37,6 @@ fn brighten(l: u8) -> u8
     if x < 60 { x + 3 } else { 63 }
 }
 
-// What a function does to a record.
-fn obey(f: Function, r: Record) -> Record
-    ensures { λ s. ⌜ s ≡ obeyed f r ⌝ }
-{
-    let called = r.addressed == 1;
-    let lamp = r.kind == 1;
-    match f {
-        Function::On => level_if(called, lit_level(r.level), r),
-        Function::Off => level_if(called, 0, r),
-        Function::Dim => level_if(called & lamp, dim(r.level), r),
-        Function::Bright => level_if(called & lamp, brighten(r.level), r),
-        Function::AllLightsOn => level_if(lamp, 63, r),
-        Function::AllLightsOff => level_if(lamp, 0, r),
-        Function::AllUnitsOff => addressed_as(0, at_level(0, r)),
-        Function::HailRequest => r,
-        Function::HailAcknowledge => r,
-        Function::StatusOn => r,
-        Function::StatusOff => r,
-        Function::StatusRequest => r,
-    }
-}
-
 // A number above 63 as 63.
 fn at_most_63(x: u8) -> u8
     ensures { λ l. ⌜ l ≡ min 63 x ⌝ }
@@ -105,6 +49,105 @@ fn level_asked(x: u8, r: Record) -> u8
     ensures { λ l. ⌜ l ≡ levelFor x r ⌝ }
 {
     choose((r.kind == 2) & !(x == 0), 63, at_most_63(x))
+}
+
+// The level that a function leaves.
+fn obeyed_level(f: Function, r: Record) -> u8
+    ensures { λ x. ⌜ x ≡ obeyed f r .level ⌝ }
+{
+    let called = r.addressed == 1;
+    let lamp = r.kind == 1;
+    match f {
+        Function::On => choose(called, lit_level(r.level), r.level),
+        Function::Off => choose(called, 0, r.level),
+        Function::Dim => choose(called & lamp, dim(r.level), r.level),
+        Function::Bright => choose(called & lamp, brighten(r.level), r.level),
+        Function::AllLightsOn => choose(lamp, 63, r.level),
+        Function::AllLightsOff => choose(lamp, 0, r.level),
+        Function::AllUnitsOff => 0,
+        Function::HailRequest => r.level,
+        Function::HailAcknowledge => r.level,
+        Function::StatusOn => r.level,
+        Function::StatusOff => r.level,
+        Function::StatusRequest => r.level,
+    }
+}
+
+// The level that an act leaves a module that is unit n, whatever the house's own bytes.
+fn act_level(act: Act, n: u8, r: Record) -> u8
+    ensures { λ x. ⌜ ((own : House) → x ≡ acted act own n r .level) ⌝ }
+{
+    let lamp = r.kind == 1;
+    match act {
+        Act::Nothing => r.level,
+        Act::Address { unit: _ } => r.level,
+        Act::Obey(f) => obeyed_level(f, r),
+        Act::Join { unit: _, group: _ } => r.level,
+        Act::Level { unit, level } => choose(n == unit, level_asked(level, r), r.level),
+        Act::JoinAt {
+            unit: _,
+            group: _,
+            level: _,
+        } => r.level,
+        Act::UnitsOn => 63,
+        Act::UnitsOff => 0,
+        Act::Leave { unit: _, groups: _ } => r.level,
+        Act::LeaveHouse { groups: _ } => r.level,
+        Act::Execute { group } => choose(bit_of(group, r.mask), preset_of(group, r), r.level),
+        Act::GroupOff { group } => choose(bit_of(group, r.mask), 0, r.level),
+        Act::GroupDim { group } => choose(bit_of(group, r.mask) & lamp, dim(r.level), r.level),
+        Act::GroupBright { group } => choose(
+            bit_of(group, r.mask) & lamp,
+            brighten(r.level),
+            r.level,
+        ),
+    }
+}
+
+// The "addressed" byte that a function leaves.
+fn obeyed_addressed(f: Function, r: Record) -> u8
+    ensures { λ x. ⌜ x ≡ obeyed f r .addressed ⌝ }
+{
+    match f {
+        Function::On => r.addressed,
+        Function::Off => r.addressed,
+        Function::Dim => r.addressed,
+        Function::Bright => r.addressed,
+        Function::AllLightsOn => r.addressed,
+        Function::AllLightsOff => r.addressed,
+        Function::AllUnitsOff => 0,
+        Function::HailRequest => r.addressed,
+        Function::HailAcknowledge => r.addressed,
+        Function::StatusOn => r.addressed,
+        Function::StatusOff => r.addressed,
+        Function::StatusRequest => r.addressed,
+    }
+}
+
+// The "addressed" byte that an act leaves a module that is unit n, by the house's own bytes.
+fn act_addressed(act: Act, house: House, n: u8, r: Record) -> u8
+    ensures { λ x. ⌜ x ≡ acted act house n r .addressed ⌝ }
+{
+    match act {
+        Act::Nothing => r.addressed,
+        Act::Address { unit } => choose(n == unit, 1, choose(house.heard == 1, 0, r.addressed)),
+        Act::Obey(f) => obeyed_addressed(f, r),
+        Act::Join { unit: _, group: _ } => r.addressed,
+        Act::Level { unit: _, level: _ } => r.addressed,
+        Act::JoinAt {
+            unit: _,
+            group: _,
+            level: _,
+        } => r.addressed,
+        Act::UnitsOn => r.addressed,
+        Act::UnitsOff => r.addressed,
+        Act::Leave { unit: _, groups: _ } => r.addressed,
+        Act::LeaveHouse { groups: _ } => r.addressed,
+        Act::Execute { group: _ } => r.addressed,
+        Act::GroupOff { group: _ } => r.addressed,
+        Act::GroupDim { group: _ } => r.addressed,
+        Act::GroupBright { group: _ } => r.addressed,
+    }
 }
 
 // A bit of a mask.
@@ -176,44 +219,77 @@ fn choose_record(b: bool, x: Record, y: Record) -> Record
     if b { x } else { y }
 }
 
-// What an act does to the record of unit n, where a module is there.
-fn act_on(act: Act, house: House, n: u8, r: Record) -> Record
-    ensures { λ s. ⌜ s ≡ acted act house n r ⌝ }
+// False for the acts that are about groups, joining and leaving. These leave every level and every "addressed" byte, and all others the groups.
+pub fn keeps_groups(act: Act) -> bool
+    ensures { λ b. ⌜ b ≡ keepsGroups act ⌝ }
+{
+    match act {
+        Act::Nothing => true,
+        Act::Address { unit: _ } => true,
+        Act::Obey(_) => true,
+        Act::Join { unit: _, group: _ } => false,
+        Act::Level { unit: _, level: _ } => true,
+        Act::JoinAt {
+            unit: _,
+            group: _,
+            level: _,
+        } => false,
+        Act::UnitsOn => true,
+        Act::UnitsOff => true,
+        Act::Leave { unit: _, groups: _ } => false,
+        Act::LeaveHouse { groups: _ } => false,
+        Act::Execute { group: _ } => true,
+        Act::GroupOff { group: _ } => true,
+        Act::GroupDim { group: _ } => true,
+        Act::GroupBright { group: _ } => true,
+    }
+}
+
+// A module's record, that of unit n, with the groups that an act leaves it, whatever the house's own bytes.
+fn act_groups(act: Act, n: u8, r: Record) -> Record
+    ensures { λ s. ⌜ ((own : House) → s ≡ groupsOf (acted act own n r) r) ⌝ }
 {
     match act {
         Act::Nothing => r,
-        Act::Address { unit } => addressed_as(
-            choose(n == unit, 1, choose(house.heard == 1, 0, r.addressed)),
-            r,
-        ),
-        Act::Obey(f) => obey(f, r),
+        Act::Address { unit: _ } => r,
+        Act::Obey(_) => r,
         Act::Join { unit, group } => choose_record(n == unit, join(group, r.level, r), r),
-        Act::Level { unit, level } => level_if(n == unit, level_asked(level, r), r),
+        Act::Level { unit: _, level: _ } => r,
         Act::JoinAt { unit, group, level } => choose_record(
             n == unit,
             join(group, level_asked(level, r), r),
             r,
         ),
-        Act::UnitsOn => at_level(63, r),
-        Act::UnitsOff => at_level(0, r),
+        Act::UnitsOn => r,
+        Act::UnitsOff => r,
         Act::Leave { unit, groups } => choose_record(n == unit, leave(groups, r), r),
         Act::LeaveHouse { groups } => leave(groups, r),
-        Act::Execute { group } => level_if(bit_of(group, r.mask), preset_of(group, r), r),
-        Act::GroupOff { group } => level_if(bit_of(group, r.mask), 0, r),
-        Act::GroupDim { group } => level_if(bit_of(group, r.mask) & (r.kind == 1), dim(r.level), r),
-        Act::GroupBright { group } => level_if(
-            bit_of(group, r.mask) & (r.kind == 1),
-            brighten(r.level),
-            r,
-        ),
+        Act::Execute { group: _ } => r,
+        Act::GroupOff { group: _ } => r,
+        Act::GroupDim { group: _ } => r,
+        Act::GroupBright { group: _ } => r,
     }
 }
 
-// What an act does to the record of unit n of a house, by the house's own bytes. An absent unit stays as it is.
-pub fn step(act: Act, house: House, n: u8, r: Record) -> Record
-    ensures { λ s. ⌜ s ≡ stepRecord act house n r ⌝ }
+// The level of the record of unit n after an act. An absent unit stays as it is, here and below.
+pub fn level_after(act: Act, n: u8, r: Record) -> u8
+    ensures { λ x. ⌜ ((own : House) → x ≡ stepRecord act own n r .level) ⌝ }
 {
-    choose_record(!(r.kind == 0), act_on(act, house, n, r), r)
+    choose(r.kind == 0, r.level, act_level(act, n, r))
+}
+
+// Its "addressed" byte, by the house's own bytes.
+pub fn addressed_after(act: Act, house: House, n: u8, r: Record) -> u8
+    ensures { λ x. ⌜ x ≡ stepRecord act house n r .addressed ⌝ }
+{
+    choose(r.kind == 0, r.addressed, act_addressed(act, house, n, r))
+}
+
+// The record with its groups as the act leaves them.
+pub fn groups_after(act: Act, n: u8, r: Record) -> Record
+    ensures { λ s. ⌜ ((own : House) → s ≡ groupsOf (stepRecord act own n r) r) ⌝ }
+{
+    choose_record(r.kind == 0, r, act_groups(act, n, r))
 }
 
 // The "command heard" byte after an act, where it was x before.

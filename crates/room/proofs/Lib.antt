@@ -4,4 +4,5 @@ pub mod HouseLaws
 pub mod ApplyLaws
 pub mod Levels
 pub mod RadioLaws
+pub mod LevelsKept
 pub mod MainsLaws

@@ -1,418 +1,349 @@
 -- Laws of the mains route.
 --
---     LevelsOf, levels-next                      the levels of a table's first records, kept in a list
---     changed-next                               one more record compared with the level kept of it
---     five-at                                    five bytes of the events, read as a message
---     coded-valid, rooms-valid                   an event leaves a valid room valid, and so do events
---     came-here, came-then, came-one, came-none, came-four, came-all      events read back and applied, one after the other
---     events-applied, events-answered            what is read back from the bytes of events is what the events say
---     heard-valid                                every message that a receiver in lent bytes gives is valid
---     received, not-received                     what the receiver's own answer tells
---     routed-done, routed-refused                what the route owes once everything but the events' room is judged
---     mains-lowest                               MainsLowest
+--     room-append, answers-append, answers-length     events one after the other, in two parts
+--     given-valid                          a message given leaves a valid room valid
+--     zero-put, stretch-put                a byte of 0 behind others; the answers to a stretch
+--     stretch-room, stretch-answers        what the events of a stretch make of the room, and their answers
+--     quiet                                half-cycles that give no message
+--     remains-end                          nothing is left to take
+--     remains-valid, remains-ok            a valid room stays so, and so does a receiver
+--     given-some, remains-quiet            a message is given, or none
+--     Turn, Turned, turn                   one turn: a stretch is taken, and its message applied
+--     route-done, route-owed               what the route leaves and owes where nothing is refused
+--     put-held                             the receiver put back
+--     mains-lowest                         MainsLowest
 use mathlib.Core.Path.{_≡_, refl, sym, ap, ap₂, subst, _∙_}
-use mathlib.Core.Bool.{Bool, true, false, _||_, false≢true}
-use mathlib.Core.List.{List, [], _∷_, _++_, append-assoc, flatMap}
+use mathlib.Core.Bool.{Bool, true, false, false≢true}
+use mathlib.Core.List.{List, [], _∷_, _++_, append-assoc, append-nil, flatMap}
 use Prim.Native.Nat.{ℕ, zero, suc, _+_, _-_, _*_, _≤_, _<_}
-use native.Mathlib.Numerals.{add-one}
-use native.Mathlib.Decide.{ℕ-discrete}
+use native.Mathlib.Nat.{zero-add, suc-add}
 use native.Mathlib.Omega.{arith}
-use lib.Dec.{eqb, leb}
-use lib.ListN.{length, getD, set, drop, length-append}
-use lib.Seq.{sets, length-sets, getD-set-same, getD-set-other, getD-drop, drop-drop}
-use Rattle.ground.specs.Choice.{pick}
-use Rattle.ground.specs.Refusals.{refusalNumber, judged}
+use borrow.Author.Tests.{eq-eqb, le-leb}
+use lib.ListN.{length, set, drop, replicate, length-replicate, length-append, length-drop, drop-of-length-le}
+use lib.Seq.{sets, length-sets}
+use Rattle.ground.specs.Refusals.{judged}
 use Rattle.ground.specs.declared.CountAnswer.{CountAnswer}
-use Rattle.ground.specs.declared.CountAnswer.the-variants.{Done as Counted, Refused as NotCounted}
-use Rattle.ground.specs.declared.Refusal.{Refusal}
-use Rattle.ground.specs.declared.Refusal.the-variants as refusal
+use Rattle.ground.specs.declared.CountAnswer.the-variants.{Done as Counted}
 use Rattle.ground.proofs.Causes.{lowest-given}
 use Rattle.ground.proofs.Lists.{sets-append, sets-front}
-use Rattle.message.specs.Messages.{messageOk}
-use Rattle.message.specs.declared.Message.{Message}
-use Rattle.message.specs.declared.Message.the-variants.{Address, Function as Command, Extended}
-use Rattle.receiver.specs.Receivers.{stepOf}
-use Rattle.receiver.specs.Hearing.{eventsOf}
+use Rattle.receiver.specs.Receivers.{receiverOk, stepOf}
+use Rattle.receiver.specs.Hearing.{eventsOf, receiverAfter, givenBy, elseGiven, firstGiven, elseMore, toGiven}
+use Rattle.receiver.specs.Bytes.{receiverIn, holdsReceiver, receiverBytes, eventBytes, eventsHeard, bytesAfter, putAfter, stretchOf, stretchEvents}
+use Rattle.receiver.specs.declared.Given.{Given}
+use Rattle.receiver.specs.declared.Given.the-variants.{No, Yes}
 use Rattle.receiver.specs.declared.Receiver.{Receiver}
 use Rattle.receiver.specs.declared.Event.{Event}
-use Rattle.receiver.specs.declared.Event.the-variants.{Nothing, Message as Gives, Repeat, BrokenPair, BrokenUnsupported, Refused as Stays}
-use Rattle.receiver.proofs.ReceiverLaws.{gives-valid}
-use Rattle.record.specs.Layout.{RECORDS, RECORD-BYTES, TABLE-BYTES, recordAt}
-use Rattle.record.specs.ModuleTable.{tableOk, changed}
-use Rattle.wire.specs.Messages.{messageFrom, messageIn, messageBytes}
-use Rattle.wire.specs.Receivers.{receiverIn, holdsReceiver, eventBytes, eventsBy, eventsHeard, bytesAfter, receiveAnswer, stateAfter, eventsAfter}
-use Rattle.wire.specs.declared.MessageRead.{MessageRead}
-use Rattle.wire.specs.declared.MessageRead.the-variants.{Message as Says, Refused as NoMessage}
-use Rattle.wire.specs.declared.receivers.ReceiverRead.{ReceiverRead}
-use Rattle.wire.specs.declared.receivers.ReceiverRead.the-variants.{Receiver as Is, Refused as NoReceiver}
-use Rattle.wire.proofs.MessageLaws.{messages-read-back}
-use Rattle.wire.proofs.RunLaws.{event-length}
-use Rattle.wire.proofs.HeardLaws.{heard-length}
-use Rattle.room.specs.Rooms.{Room, roomOf, roomOk, changes}
-use Rattle.room.specs.Lent.{readRoom, codedRoom, codedAnswer, firstRoom, codedRooms, codedAnswers, Came, Routed}
-use Rattle.room.specs.declared.Changes.{Changes}
-use Rattle.room.specs.declared.RoomAnswer.the-variants.{Done, Refused as NotDone}
-use Rattle.room.specs.Mains.{Lending, lentTo, eventRoom, eventAnswer, answerBytes, roomHeard, answersHeard, mainsCauses, MainsLowest}
+use Rattle.receiver.specs.declared.lent.Stretch.{Stretch}
+use Rattle.receiver.specs.declared.lent.ReceiverRead.the-variants.{Receiver as Is}
+use Rattle.receiver.proofs.ReadBack.{run-valid, held-length}
+use Rattle.receiver.proofs.RunLaws.{events-length}
+use Rattle.receiver.proofs.Stretches.{Toward, to-most, to-some, events-on, rest-on, stretch-told}
+use Rattle.record.specs.Layout.{TABLE-BYTES}
+use Rattle.record.specs.ModuleTable.{tableOk}
+use Rattle.room.specs.Rooms.{Room, roomOf, roomLong, roomOk, changes, roomReport}
+use Rattle.room.specs.Lent.{isGiven, placeOf, stretchAnswers, Prepared, Remains, remains, remainsBy}
+use Rattle.room.specs.Mains.{roomGiven, answerGiven, answerBytes, roomHeard, answersHeard, Lending}
+use Rattle.room.specs.Mains.{lentTo, mainsCauses, mainsRoom, mainsAnswer, mainsReport, mainsAfter}
+use Rattle.room.specs.Mains.{mainsLent, lentAfter, MainsLowest}
+use Rattle.room.specs.declared.RoomAnswer.{RoomAnswer}
+use Rattle.room.specs.declared.RoomAnswer.the-variants.{Done}
 use Rattle.room.proofs.HouseLaws.{whole}
 use Rattle.room.proofs.ApplyLaws.{valid-stays}
 
--- ---- levels kept
+-- ---- events one after the other
 
-abbrev pub LevelsOf : ℕ → List ℕ → List ℕ → Type 0
-LevelsOf n t levels = (k : ℕ) → k < n → getD levels k 0 ≡ recordAt t k .level
+pub room-append : (es fs : List Event) (room : Room) → roomHeard (es ++ fs) room ≡ roomHeard fs (roomHeard es room)
+unfolding roomHeard
+room-append [] fs room = refl
+room-append (e ∷ es) fs room = room-append es fs (roomGiven (givenBy e) room)
 
-pub levels-next : (t levels : List ℕ) (i : ℕ) → i < length levels → LevelsOf i t levels
-    → LevelsOf (i + 1) t (set levels i (getD t (i * RECORD-BYTES + 1) 0))
-unfolding recordAt
-levels-next t levels i within kept k h = go (ℕ-discrete k i)
-  where
-    x : ℕ
-    x = getD t (i * RECORD-BYTES + 1) 0
+pub answers-append : (es fs : List Event) (room : Room) → answersHeard (es ++ fs) room ≡ answersHeard es room ++ answersHeard fs (roomHeard es room)
+unfolding answersHeard roomHeard
+answers-append [] fs room = refl
+answers-append (e ∷ es) fs room =
+    let bytes = answerBytes (answerGiven (givenBy e) room) in
+    let next = roomGiven (givenBy e) room in
+    ap (λ (x : List ℕ). bytes ++ x) (answers-append es fs next) ∙ sym (append-assoc bytes (answersHeard es next) (answersHeard fs (roomHeard es next)))
 
-    go : Dec (k ≡ i) → getD (set levels i x) k 0 ≡ recordAt t k .level
-    go (yes e) = subst (λ (n : ℕ). getD (set levels i x) n 0 ≡ recordAt t n .level) (sym e) (getD-set-same levels i x 0 within)
-    go (no ne) = getD-set-other levels i k x 0 ne ∙ kept k (omega arith)
-
-pub changed-next : (before t levels : List ℕ) (i count more : ℕ) → LevelsOf RECORDS before levels → i < RECORDS
-    → count ≡ changed i before t → more ≡ pick (eqb (getD levels i 0) (getD t (i * RECORD-BYTES + 1) 0)) 0 1
-    → count + more ≡ changed (i + 1) before t
-unfolding changed recordAt
-changed-next before t levels i count more kept h e d =
-    rw (add-one i) (ap₂ (λ (a b : ℕ). a + b) e (d ∙ ap (λ (x : ℕ). pick (eqb x (getD t (i * RECORD-BYTES + 1) 0)) 0 1) (kept i h)))
-
--- ---- events read back from their bytes, one after the other
-
--- the message whose five bytes stand from a place on
-pub five-at : (events : List ℕ) (at : ℕ)
-    → messageFrom (getD events (at + 1) 0) (getD events (at + 2) 0) (getD events (at + 3) 0) (getD events (at + 4) 0) (getD events (at + 5) 0)
-    ≡ messageIn (drop (at + 1) events)
-five-at events at =
-    let byte : (k j : ℕ) → at + 1 + k ≡ j → getD (drop (at + 1) events) k 0 ≡ getD events j 0 =
-    λ k j p. getD-drop (at + 1) events k 0 ∙ ap (λ (n : ℕ). getD events n 0) p in
-    rw (byte 0 (at + 1) (omega arith), byte 1 (at + 2) (omega arith), byte 2 (at + 3) (omega arith), byte 3 (at + 4) (omega arith), byte 4 (at + 5) (omega arith))
-
--- a room that is valid stays so, whatever is read
-pub coded-valid : (code : ℕ) (read : MessageRead) (room : Room) → roomOk room ≡ true → roomOk (codedRoom code read room) ≡ true
-coded-valid code read room ok = go (eqb code 1) read
-  where
-    go : (b : Bool) (r : MessageRead) → roomOk (pick b (readRoom r room) room) ≡ true
-    go false r = ok
-    go true (Says m) = valid-stays m room ok
-    go true (NoMessage why) = ok
-
-pub rooms-valid : (n : ℕ) (events : List ℕ) (room : Room) → roomOk room ≡ true → roomOk (codedRooms n events room) ≡ true
-unfolding codedRooms
-rooms-valid zero events room ok = ok
-rooms-valid (suc n) events room ok =
-    rooms-valid n (drop 6 events) (firstRoom events room) (coded-valid (getD events 0 0) (messageIn (drop 1 events)) room ok)
-
--- ---- from one event on to another
-
-module _ (n : ℕ) (events : List ℕ) where
-  pub came-here : (room : Room) (answers : List ℕ) (i : ℕ) → i ≤ n → Came n events room answers i room answers i
-  came-here room answers i low = record { later = omega arith; within = low; wide = refl; rooms = refl; bytes = refl }
-
-  pub came-then : {room₁ room₂ room₃ : Room} {answers₁ answers₂ answers₃ : List ℕ} {i j k : ℕ}
-      → Came n events room₁ answers₁ i room₂ answers₂ j → Came n events room₂ answers₂ j room₃ answers₃ k → Came n events room₁ answers₁ i room₃ answers₃ k
-  came-then x y = record {
-    later = let p = x .later in let q = y .later in omega arith;
-    within = y .within;
-    wide = y .wide ∙ x .wide;
-    rooms = y .rooms ∙ x .rooms;
-    bytes = y .bytes ∙ x .bytes;
-  }
-
-  module _ (i : ℕ) (more : i < n) where
-    -- what stands at the place of event i
-    at-code : getD (drop (6 * i) events) 0 0 ≡ getD events (6 * i) 0
-    at-code = let p : 6 * i + 0 ≡ 6 * i = omega arith in getD-drop (6 * i) events 0 0 ∙ ap (λ (k : ℕ). getD events k 0) p
-
-    at-message : drop 1 (drop (6 * i) events) ≡ drop (6 * i + 1) events
-    at-message = drop-drop 1 (6 * i) events
-
-    at-rest : drop 6 (drop (6 * i) events) ≡ drop (6 * (i + 1)) events
-    at-rest = let p : 6 * i + 6 ≡ 6 * (i + 1) = omega arith in drop-drop 6 (6 * i) events ∙ ap (λ (k : ℕ). drop k events) p
-
-    -- event i answered and applied
-    module _ (room room′ : Room) (answers answers′ : List ℕ) (a : ℕ)
-        (answer : a ≡ codedAnswer (getD events (6 * i) 0) (messageIn (drop (6 * i + 1) events)) room)
-        (applied : room′ ≡ codedRoom (getD events (6 * i) 0) (messageIn (drop (6 * i + 1) events)) room)
-        (put : answers′ ≡ sets answers (8 * i) (answerBytes a)) where
-      left : n - i ≡ suc (n - (i + 1))
-      left = omega arith
-
-      stepped : room′ ≡ firstRoom (drop (6 * i) events) room
-      stepped = applied ∙ sym (ap₂ (λ (c : ℕ) (l : List ℕ). codedRoom c (messageIn l) room) at-code at-message)
-
-      answered : a ≡ codedAnswer (getD (drop (6 * i) events) 0 0) (messageIn (drop 1 (drop (6 * i) events))) room
-      answered = answer ∙ sym (ap₂ (λ (c : ℕ) (l : List ℕ). codedAnswer c (messageIn l) room) at-code at-message)
-
-      rooms-left : codedRooms (n - i) (drop (6 * i) events) room ≡ codedRooms (n - (i + 1)) (drop (6 * (i + 1)) events) room′
-      unfolding codedRooms
-      rooms-left =
-          ap (λ (k : ℕ). codedRooms k (drop (6 * i) events) room) left
-          ∙ ap₂ (λ (l : List ℕ) (r : Room). codedRooms (n - (i + 1)) l r) at-rest (sym stepped)
-
-      bytes-left : codedAnswers (n - i) (drop (6 * i) events) room ≡ answerBytes a ++ codedAnswers (n - (i + 1)) (drop (6 * (i + 1)) events) room′
-      unfolding codedAnswers
-      bytes-left =
-          ap (λ (k : ℕ). codedAnswers k (drop (6 * i) events) room) left
-          ∙ ap₂ (λ (x : ℕ) (l : List ℕ). answerBytes x ++ l) (sym answered)
-          (ap₂ (λ (l : List ℕ) (r : Room). codedAnswers (n - (i + 1)) l r) at-rest (sym stepped))
-
-      pub came-one : Came n events room answers i room′ answers′ (i + 1)
-      came-one = record {
-        later = omega arith;
-        within = omega arith;
-        wide = ap length put ∙ length-sets answers (8 * i) (answerBytes a);
-        rooms = sym rooms-left;
-        bytes =
-            let rest : List ℕ = codedAnswers (n - (i + 1)) (drop (6 * (i + 1)) events) room′ in
-            let place : 8 * (i + 1) ≡ 8 * i + 8 = omega arith in
-            ap₂ (λ (l : List ℕ) (k : ℕ). sets l k rest) put place
-            ∙ sym (sets-append answers (8 * i) (answerBytes a) rest)
-            ∙ ap (sets answers (8 * i)) (sym bytes-left);
-      }
-
-    -- an event that is no MESSAGE
-    pub came-none : (room : Room) (answers answers′ : List ℕ) → eqb (getD events (6 * i) 0) 1 ≡ false → answers′ ≡ sets answers (8 * i) (answerBytes 0)
-        → Came n events room answers i room answers′ (i + 1)
-    came-none room answers answers′ none put = came-one room room answers answers′ 0 (rw none) (rw none) put
-
-  -- all of them
-  pub came-all : {room₁ room₂ : Room} {answers₁ answers₂ : List ℕ} {j : ℕ} → j ≡ n → Came n events room₁ answers₁ 0 room₂ answers₂ j
-      → (room₂ ≡ codedRooms n events room₁) × (answers₂ ≡ sets answers₁ 0 (codedAnswers n events room₁))
-  unfolding codedRooms codedAnswers
-  came-all {room₁} {room₂} {answers₁} {answers₂} {j} end x =
-      let none : n - j ≡ 0 = omega arith in
-      let all : n - 0 ≡ n = omega arith in (
-        sym (ap (λ (k : ℕ). codedRooms k (drop (6 * j) events) room₂) none) ∙ x .rooms ∙ ap (λ (k : ℕ). codedRooms k events room₁) all,
-        sym (ap (λ (k : ℕ). sets answers₂ (8 * j) (codedAnswers k (drop (6 * j) events) room₂)) none)
-            ∙ x .bytes
-            ∙ ap (λ (k : ℕ). sets answers₁ 0 (codedAnswers k events room₁)) all,
-      )
-
--- four tests of which none holds
-none-of-four : (a b c d : Bool) → (a || (b || (c || d))) ≡ false → (a ≡ false) × (b ≡ false) × (c ≡ false) × (d ≡ false)
-none-of-four false false false false e = (refl, refl, refl, refl)
-none-of-four true b c d e = absurd (false≢true (sym e))
-none-of-four false true c d e = absurd (false≢true (sym e))
-none-of-four false false true d e = absurd (false≢true (sym e))
-none-of-four false false false true e = absurd (false≢true (sym e))
-
-module _ (n : ℕ) (events : List ℕ) (room : Room) where
-  -- the same by the place of the event's code and of the event after it
-  came-past : (i j place : ℕ) (answers answers′ : List ℕ) → i < n → j ≡ i + 1 → place ≡ 6 * i → eqb (getD events place 0) 1 ≡ false
-      → answers′ ≡ sets answers (8 * i) (answerBytes 0) → Came n events room answers i room answers′ j
-  came-past i j place answers answers′ more next at none put =
-      subst (λ (k : ℕ). Came n events room answers i room answers′ k) (sym next)
-      (came-none n events i more room answers answers′ (ap (λ (k : ℕ). eqb (getD events k 0) 1) (sym at) ∙ none) put)
-
-  -- four events of which none is a MESSAGE
-  pub came-four : (i : ℕ) (a b c d e : List ℕ) → i + 4 ≤ n
-      → (eqb (getD events (6 * i) 0) 1
-      || (eqb (getD events (6 * i + 6) 0) 1 || (eqb (getD events (6 * i + 12) 0) 1 || eqb (getD events (6 * i + 18) 0) 1))) ≡ false
-      → b ≡ sets a (8 * i) (answerBytes 0) → c ≡ sets b (8 * (i + 1)) (answerBytes 0)
-      → d ≡ sets c (8 * (i + 2)) (answerBytes 0) → e ≡ sets d (8 * (i + 3)) (answerBytes 0) → Came n events room a i room e (i + 4)
-  came-four i a b c d e within none p q r s =
-      let none′ = none-of-four (eqb (getD events (6 * i) 0) 1) _ _ _ none in
-      came-then n events (came-past i (i + 1) (6 * i) a b (omega arith) refl refl (none′ .0) p)
-      (came-then n events (came-past (i + 1) (i + 2) (6 * i + 6) b c (omega arith) (omega arith) (omega arith) (none′ .1) q)
-      (came-then n events (came-past (i + 2) (i + 3) (6 * i + 12) c d (omega arith) (omega arith) (omega arith) (none′ .2) r)
-      (came-past (i + 3) (i + 4) (6 * i + 18) d e (omega arith) (omega arith) (omega arith) (none′ .3) s)))
-
--- ---- the bytes of events
-
--- every message given is valid
-abbrev pub AllValid : List Event → Type 0
-AllValid [] = Unit {0}
-AllValid (e ∷ es) = ((m : Message) → e ≡ Gives m → messageOk m ≡ true) × AllValid es
-
-all-valid : (r : Receiver) (hs : List ℕ) → AllValid (eventsOf r hs)
-unfolding eventsOf
-all-valid r [] = tt
-all-valid r (h ∷ hs) = (gives-valid r h, all-valid (stepOf r h .next) hs)
-
-pub heard-valid : (state halves : List ℕ) → AllValid (eventsHeard state halves)
-unfolding eventsHeard
-heard-valid state halves = go (receiverIn state)
-  where
-    go : (x : ReceiverRead) → AllValid (eventsBy x halves)
-    go (Is r) = all-valid r halves
-    go (NoReceiver why) = tt
-
-same-either : {A : Type 0} (b : Bool) (a : A) → pick b a a ≡ a
-same-either true a = refl
-same-either false a = refl
-
--- the message of an event, read back with whatever follows it
-read-given : (m : Message) (rest : List ℕ) → messageOk m ≡ true → messageIn (messageBytes m ++ rest) ≡ Says m
-read-given (Address h u) rest t = messages-read-back .message-of-bytes (Address h u) t
-read-given (Command h f) rest t = messages-read-back .message-of-bytes (Command h f) t
-read-given (Extended h u d c) rest t = messages-read-back .message-of-bytes (Extended h u d c) t
-
-past-message : (m : Message) (rest : List ℕ) → drop 5 (messageBytes m ++ rest) ≡ rest
-past-message (Address h u) rest = refl
-past-message (Command h f) rest = refl
-past-message (Extended h u d c) rest = refl
-
-past-event : (e : Event) (rest : List ℕ) → drop 6 (eventBytes e ++ rest) ≡ rest
-past-event (Gives m) rest = past-message m rest
-past-event Nothing rest = refl
-past-event Repeat rest = refl
-past-event BrokenPair rest = refl
-past-event BrokenUnsupported rest = refl
-past-event (Stays why) rest = refl
-
-first-room : (e : Event) (rest : List ℕ) (room : Room) → ((m : Message) → e ≡ Gives m → messageOk m ≡ true)
-    → firstRoom (eventBytes e ++ rest) room ≡ eventRoom e room
-unfolding messageFrom
-first-room (Gives m) rest room ok = ap (λ (r : MessageRead). readRoom r room) (read-given m rest (ok m refl))
-first-room Nothing rest room ok = refl
-first-room Repeat rest room ok = refl
-first-room BrokenPair rest room ok = refl
-first-room BrokenUnsupported rest room ok = refl
-first-room (Stays why) rest room ok = same-either (eqb (refusalNumber why) 1) room
-
-first-answer : (e : Event) (rest : List ℕ) (room : Room) → ((m : Message) → e ≡ Gives m → messageOk m ≡ true)
-    → codedAnswer (getD (eventBytes e ++ rest) 0 0) (messageIn (drop 1 (eventBytes e ++ rest))) room ≡ eventAnswer e room
-unfolding messageFrom
-first-answer (Gives m) rest room ok = ap (λ (r : MessageRead). codedAnswer 1 r room) (read-given m rest (ok m refl))
-first-answer Nothing rest room ok = refl
-first-answer Repeat rest room ok = refl
-first-answer BrokenPair rest room ok = refl
-first-answer BrokenUnsupported rest room ok = refl
-first-answer (Stays why) rest room ok = same-either {A = ℕ} (eqb (refusalNumber why) 1) 0
-
-pub events-applied : (es : List Event) (rest : List ℕ) (room : Room) → AllValid es
-    → codedRooms (length es) (flatMap eventBytes es ++ rest) room ≡ roomHeard es room
-unfolding codedRooms roomHeard flatMap
-events-applied [] rest room v = refl
-events-applied (e ∷ es) rest room v =
-    let later : List ℕ = flatMap eventBytes es ++ rest in
-    let whole = append-assoc (eventBytes e) (flatMap eventBytes es) rest in
-    ap₂ (λ (l : List ℕ) (r : Room). codedRooms (length es) l r) (ap (drop 6) whole ∙ past-event e later) (ap (λ (l : List ℕ). firstRoom l room) whole ∙ first-room e later room (v .0))
-    ∙ events-applied es rest (eventRoom e room) (v .1)
-
-pub events-answered : (es : List Event) (rest : List ℕ) (room : Room) → AllValid es
-    → codedAnswers (length es) (flatMap eventBytes es ++ rest) room ≡ answersHeard es room
-unfolding codedAnswers answersHeard flatMap
-events-answered [] rest room v = refl
-events-answered (e ∷ es) rest room v =
-    let later : List ℕ = flatMap eventBytes es ++ rest in
-    let whole = append-assoc (eventBytes e) (flatMap eventBytes es) rest in
-    ap₂ (λ (a : ℕ) (l : List ℕ). answerBytes a ++ l)
-    (ap (λ (l : List ℕ). codedAnswer (getD l 0 0) (messageIn (drop 1 l)) room) whole ∙ first-answer e later room (v .0))
-    (ap₂ (λ (l : List ℕ) (r : Room). codedAnswers (length es) l r) (ap (drop 6) whole ∙ past-event e later) (ap (λ (l : List ℕ). firstRoom l room) whole ∙ first-room e later room (v .0))
-    ∙ events-answered es rest (eventRoom e room) (v .1))
-
--- ---- how many bytes
-
-bytes-length : (es : List Event) → length (flatMap eventBytes es) ≡ 6 * length es
-unfolding flatMap
-bytes-length [] = refl
-bytes-length (e ∷ es) = length-append (eventBytes e) (flatMap eventBytes es) ∙ omega (arith, event-length e, bytes-length es)
-
-answers-length : (es : List Event) (room : Room) → length (answersHeard es room) ≡ 8 * length es
-unfolding answersHeard
-answers-length [] room = refl
-answers-length (e ∷ es) room =
-    let a : List ℕ = answerBytes (eventAnswer e room) in
+pub answers-length : (r : Receiver) (hs : List ℕ) (room : Room) → length (answersHeard (eventsOf r hs) room) ≡ 8 * length hs
+unfolding answersHeard eventsOf
+answers-length r [] room = refl
+answers-length r (h ∷ hs) room =
+    let s = stepOf r h in
+    let next = roomGiven (givenBy (s .event)) room in
+    let a : List ℕ = answerBytes (answerGiven (givenBy (s .event)) room) in
     let eight : length a ≡ 8 = refl in
-    length-append a (answersHeard es (eventRoom e room)) ∙ omega (arith, eight, answers-length es (eventRoom e room))
+    length-append a (answersHeard (eventsOf (s .next) hs) next) ∙ omega (arith, eight, answers-length (s .next) hs next)
+
+pub given-valid : (g : Given) (room : Room) → roomOk room ≡ true → roomOk (roomGiven g room) ≡ true
+given-valid No room ok = ok
+given-valid (Yes m) room ok = valid-stays m room ok
+
+-- ---- a stretch
+
+-- eight bytes of 0 for one half-cycle more
+abbrev nought : ℕ → List ℕ
+nought n = replicate n 0
+
+zeros : (n k : ℕ) → nought n ++ nought k ≡ nought (n + k)
+zeros zero k = ap nought (sym (zero-add k))
+zeros (suc n) k = ap (λ (l : List ℕ). 0 ∷ l) (zeros n k) ∙ ap nought (sym (suc-add n k))
+
+eight-more : (n : ℕ) → nought 8 ++ nought (8 * n) ≡ nought (8 * suc n)
+eight-more n = let more : 8 + 8 * n ≡ 8 * suc n = omega arith in zeros 8 (8 * n) ∙ ap nought more
+
+pub zero-put : (a : List ℕ) (p n : ℕ) → set (sets a p (replicate n 0)) (p + n) 0 ≡ sets a p (replicate (n + 1) 0)
+zero-put a p n =
+    ap (λ (k : ℕ). sets (sets a p (nought n)) (p + k) (nought 1)) (sym (length-replicate n 0))
+    ∙ sym (sets-append a p (nought n) (nought 1))
+    ∙ ap (sets a p) (zeros n 1)
+
+-- the answers to a stretch: 0 to all but the last
+pub stretch-put : (answers after answers′ : List ℕ) (from to answer : ℕ) (given : Given) (room : Room) → from < to
+    → after ≡ sets answers (8 * from) (replicate (8 * (to - 1 - from)) 0) → answer ≡ answerGiven given room
+    → answers′ ≡ sets after (8 * (to - 1)) (answerBytes answer)
+    → answers′ ≡ sets answers (8 * from) (stretchAnswers (to - from) given room)
+stretch-put answers after answers′ from to answer given room some before is put =
+    let n : ℕ = 8 * (to - 1 - from) in
+    let long : length (nought n) ≡ n = length-replicate n 0 in
+    let place : 8 * (to - 1) ≡ 8 * from + length (nought n) = omega arith in
+    let count : to - 1 - from ≡ to - from - 1 = omega arith in
+    let last : List ℕ = answerBytes (answerGiven given room) in
+    put
+    ∙ ap₂ (λ (l : List ℕ) (a : ℕ). sets l (8 * (to - 1)) (answerBytes a)) before is
+    ∙ ap (λ (k : ℕ). sets (sets answers (8 * from) (nought n)) k last) place
+    ∙ sym (sets-append answers (8 * from) (nought n) last)
+    ∙ ap (λ (k : ℕ). sets answers (8 * from) (nought (8 * k) ++ last)) count
+
+module _ (room : Room) where
+  pub stretch-room : (r : Receiver) (hs : List ℕ) → roomHeard (eventsOf r (toGiven r hs)) room ≡ roomGiven (firstGiven r hs) room
+  unfolding roomHeard eventsOf toGiven firstGiven
+  stretch-room r [] = refl
+  stretch-room r (h ∷ hs) = go (givenBy (stepOf r h .event)) (stretch-room (stepOf r h .next) hs)
+    where
+      next : Receiver
+      next = stepOf r h .next
+
+      go : (g : Given) → roomHeard (eventsOf next (toGiven next hs)) room ≡ roomGiven (firstGiven next hs) room
+          → roomHeard (eventsOf next (elseMore g (toGiven next hs))) (roomGiven g room) ≡ roomGiven (elseGiven g (firstGiven next hs)) room
+      go No e = e
+      go (Yes m) e = refl
+
+  pub stretch-answers : (r : Receiver) (hs : List ℕ) → 0 < length hs
+      → answersHeard (eventsOf r (toGiven r hs)) room ≡ stretchAnswers (length (toGiven r hs)) (firstGiven r hs) room
+  unfolding answersHeard eventsOf toGiven firstGiven
+  stretch-answers r [] some = absurd (omega arith)
+  stretch-answers r (h ∷ hs) some = go (givenBy (stepOf r h .event)) hs (λ more. stretch-answers (stepOf r h .next) hs more)
+    where
+      next : Receiver
+      next = stepOf r h .next
+
+      go : (g : Given) (l : List ℕ)
+          → (0 < length l → answersHeard (eventsOf next (toGiven next l)) room ≡ stretchAnswers (length (toGiven next l)) (firstGiven next l) room)
+          → answerBytes (answerGiven g room) ++ answersHeard (eventsOf next (elseMore g (toGiven next l))) (roomGiven g room)
+          ≡ stretchAnswers (suc (length (elseMore g (toGiven next l)))) (elseGiven g (firstGiven next l)) room
+      go (Yes m) l later = append-nil (answerBytes (answerGiven (Yes m) room))
+      go No [] later = refl
+      go No (x ∷ l) later =
+          let last : List ℕ = answerBytes (answerGiven (firstGiven next (x ∷ l)) room) in
+          let n : ℕ = length (toGiven next (x ∷ l)) in
+          let some′ = to-some next (x ∷ l) (omega arith) in
+          let one-less : suc (n - 1) ≡ suc n - 1 = omega (arith, some′) in
+          ap (λ (z : List ℕ). nought 8 ++ z) (later (omega arith))
+          ∙ sym (append-assoc (nought 8) (nought (8 * (n - 1))) last)
+          ∙ ap (λ (z : List ℕ). z ++ last) (eight-more (n - 1) ∙ ap (λ (k : ℕ). nought (8 * k)) one-less)
+
+  -- half-cycles that give no message
+  pub quiet : (r : Receiver) (hs : List ℕ) → firstGiven r hs ≡ No
+      → (toGiven r hs ≡ hs) × (roomHeard (eventsOf r hs) room ≡ room) × (answersHeard (eventsOf r hs) room ≡ replicate (8 * length hs) 0)
+  unfolding roomHeard answersHeard eventsOf toGiven firstGiven
+  quiet r [] none = (refl, refl, refl)
+  quiet r (h ∷ hs) none = go (givenBy (stepOf r h .event)) none (λ e. quiet (stepOf r h .next) hs e)
+    where
+      next : Receiver
+      next = stepOf r h .next
+
+      go : (g : Given) → elseGiven g (firstGiven next hs) ≡ No
+          → (firstGiven next hs ≡ No
+          → (toGiven next hs ≡ hs) × (roomHeard (eventsOf next hs) room ≡ room) × (answersHeard (eventsOf next hs) room ≡ nought (8 * length hs)))
+          → (h ∷ elseMore g (toGiven next hs) ≡ h ∷ hs)
+          × (roomHeard (eventsOf next hs) (roomGiven g room) ≡ room)
+          × (answerBytes (answerGiven g room) ++ answersHeard (eventsOf next hs) (roomGiven g room) ≡ nought (8 * suc (length hs)))
+      go (Yes m) e later = absurd (false≢true (sym (ap isGiven e)))
+      go No e later =
+          let t = later e in (
+            ap (λ (l : List ℕ). h ∷ l) (t .0),
+            t .1,
+            ap (λ (z : List ℕ). nought 8 ++ z) (t .2) ∙ eight-more (length hs),
+          )
+
+-- ---- all half-cycles from a place on
+
+same-remains : {r q : Receiver} {a b : Room} {e f x y : List ℕ} → r ≡ q → a ≡ b → e ≡ f → x ≡ y → remains r a e x ≡ remains q b f y
+same-remains p q u v = rw (p, q, u, v)
+
+module _ (hs : List ℕ) (r : Receiver) (i : ℕ) (room : Room) (events answers : List ℕ) where
+  pub remains-end : length hs ≤ i → remains r room events answers ≡ remainsBy hs r i room events answers
+  unfolding remainsBy receiverAfter eventsOf roomHeard answersHeard flatMap
+  remains-end none = let e : drop i hs ≡ [] = drop-of-length-le hs none in rw e refl
+
+  -- by those of the half-cycles after a stretch
+  remains-on : (to : ℕ) (next : Receiver) (given : Given) (events′ answers′ : List ℕ) → i < length hs → Toward hs r i events to next given events′
+      → answers′ ≡ sets answers (8 * i) (stretchAnswers (to - i) given room)
+      → remainsBy hs next to (roomGiven given room) events′ answers′ ≡ remainsBy hs r i room events answers
+  unfolding remainsBy
+  remains-on to next given events′ answers′ more t put =
+      let taken : List ℕ = toGiven r (drop i hs) in
+      let es : List Event = eventsOf r taken in
+      let fs : List Event = eventsOf next (drop to hs) in
+      let some : 0 < length (drop i hs) = omega (arith, length-drop i hs) in
+      let all : eventsOf r (drop i hs) ≡ es ++ fs = events-on hs r i events to next given events′ t in
+      let on = rest-on hs r i events to next given events′ t in
+      let room-on : roomHeard es room ≡ roomGiven given room = stretch-room room r (drop i hs) ∙ ap (λ (g : Given). roomGiven g room) (sym (t .message)) in
+      let long : to - i ≡ length taken = omega (arith, t .place) in
+      let first : answersHeard es room ≡ stretchAnswers (to - i) given room
+      = stretch-answers room r (drop i hs) some
+      ∙ ap₂ (λ (n : ℕ) (g : Given). stretchAnswers n g room) (sym long) (sym (t .message)) in
+      let place : 8 * to ≡ 8 * i + length (answersHeard es room) = omega (arith, t .place, answers-length r taken room) in
+      same-remains (on .1)
+      (ap (roomHeard fs) (sym room-on) ∙ sym (room-append es fs room) ∙ ap (λ (l : List Event). roomHeard l room) (sym all))
+      (on .2)
+      (ap₂ (λ (l : List ℕ) (n : ℕ). sets l n (answersHeard fs (roomGiven given room))) (put ∙ ap (sets answers (8 * i)) (sym first)) place
+      ∙ ap (λ (q : Room). sets (sets answers (8 * i) (answersHeard es room)) (8 * i + length (answersHeard es room)) (answersHeard fs q)) (sym room-on)
+      ∙ sym (sets-append answers (8 * i) (answersHeard es room) (answersHeard fs (roomHeard es room)))
+      ∙ ap (sets answers (8 * i)) (sym (ap (λ (l : List Event). answersHeard l room) all ∙ answers-append es fs room)))
+
+heard-valid : (es : List Event) (room : Room) → roomOk room ≡ true → roomOk (roomHeard es room) ≡ true
+unfolding roomHeard
+heard-valid [] room ok = ok
+heard-valid (e ∷ es) room ok = heard-valid es (roomGiven (givenBy e) room) (given-valid (givenBy e) room ok)
+
+pub remains-valid : (hs : List ℕ) (r : Receiver) (i : ℕ) (room : Room) (events answers : List ℕ) → roomOk room ≡ true
+    → roomOk (remainsBy hs r i room events answers .room) ≡ true
+unfolding remainsBy
+remains-valid hs r i room events answers ok = heard-valid (eventsOf r (drop i hs)) room ok
+
+pub remains-ok : (hs : List ℕ) (r : Receiver) (i : ℕ) (room : Room) (events answers : List ℕ) → receiverOk r ≡ true
+    → receiverOk (remainsBy hs r i room events answers .receiver) ≡ true
+unfolding remainsBy
+remains-ok hs r i room events answers ok = run-valid r (drop i hs) ok
+
+-- ---- one turn: a stretch is taken from place i on, and its message applied
+
+-- what is then ready, and what still remains
+pub record Turned (hs : List ℕ) (r : Receiver) (i : ℕ) (room : Room) (events answers : List ℕ) (next : Receiver) (to : ℕ) (table′ events′ answers′ : List ℕ)
+    : Type 0 where
+  pub ready : Prepared next hs to table′ events′ answers′
+  pub events-long : length events′ ≡ length events
+  pub answers-long : length answers′ ≡ length answers
+  pub same : remainsBy hs next to (roomOf table′) events′ answers′ ≡ remainsBy hs r i room events answers
+
+pub record Turn (hs : List ℕ) (r : Receiver) (i : ℕ) (table events answers : List ℕ) (o : Stretch) (events′ : List ℕ) (to : ℕ) : Type 0 where
+  pub toward : Toward hs r i events to (o .next) (o .given) events′
+  pub within : to ≤ length hs
+  pub later : i < length hs → i < to
+  pub after : i < length hs → (table′ answers′ : List ℕ) → roomOf table′ ≡ roomGiven (o .given) (roomOf table)
+      → answers′ ≡ sets answers (8 * i) (stretchAnswers (to - i) (o .given) (roomOf table))
+      → Turned hs r i (roomOf table) events answers (o .next) to table′ events′ answers′
+
+pub turn : (hs : List ℕ) (r : Receiver) (i : ℕ) (table events answers : List ℕ) → Prepared r hs i table events answers
+    → (o : Stretch) (events′ : List ℕ) (to : ℕ) → o ≡ stretchOf r hs i (length events) → events′ ≡ stretchEvents r hs i events
+    → to ≡ placeOf (o .answer) (length hs)
+    → Turn hs r i table events answers o events′ to
+turn hs r i table events answers ready o events′ to ran put place =
+    let told = stretch-told hs r i events (ready .receiver) o events′ (ready .events-space) ran put in
+    let at : to ≡ i + length (toGiven r (drop i hs)) = place ∙ ap (λ (a : CountAnswer). placeOf a (length hs)) (told .0) in
+    let toward = subst (λ (n : ℕ). Toward hs r i events n (o .next) (o .given) events′) (sym at) (told .1) in
+    let long = length-drop i hs in
+    let within : to ≤ length hs = omega (arith, at, ready .place, to-most r (drop i hs), long) in
+    let same : length events′ ≡ length events = rest-on hs r i events to (o .next) (o .given) events′ toward .0 in
+    record {
+      toward = toward;
+      within = within;
+      later = λ more. omega (arith, at, to-some r (drop i hs) (omega (arith, long)));
+      after = λ more table′ answers′ applied answered.
+          let wide : length answers′ ≡ length answers = ap length answered ∙ length-sets answers (8 * i) (stretchAnswers (to - i) (o .given) (roomOf table)) in
+          record {
+            ready = record {
+              receiver = ap receiverOk (toward .receiver) ∙ run-valid r (toGiven r (drop i hs)) (ready .receiver);
+              place = within;
+              rules = ap roomOk applied ∙ given-valid (o .given) (roomOf table) (ready .rules);
+              events-space = omega (arith, ready .events-space, same);
+              answers-space = omega (arith, ready .answers-space, wide);
+            };
+            events-long = same;
+            answers-long = wide;
+            same = ap (λ (q : Room). remainsBy hs (o .next) to q events′ answers′) applied
+                ∙ remains-on hs r i (roomOf table) events answers to (o .next) (o .given) events′ answers′ more toward answered;
+          };
+    }
+
+-- a message comes of some half-cycle
+pub given-some : (hs : List ℕ) {r : Receiver} {evs : List ℕ} {to : ℕ} {next : Receiver} {given : Given} {after : List ℕ}
+    → Toward hs r 0 evs to next given after → isGiven given ≡ true → 0 < length hs
+unfolding firstGiven
+given-some [] t e = absurd (false≢true (sym (ap isGiven (t .message)) ∙ e))
+given-some (h ∷ hs) t e = omega arith
+
+-- no message is given by any half-cycle
+pub remains-quiet : (hs : List ℕ) (r : Receiver) (room : Room) (events answers : List ℕ) (to : ℕ) (next : Receiver) (given : Given) (events′ answers′ : List ℕ)
+    → Toward hs r 0 events to next given events′ → isGiven given ≡ false → answers′ ≡ sets answers 0 (replicate (8 * (to - 0)) 0)
+    → remains next room events′ answers′ ≡ remainsBy hs r 0 room events answers
+unfolding remainsBy
+remains-quiet hs r room events answers to next given events′ answers′ t none put =
+    let q = quiet room r hs (sym (t .message) ∙ no given none) in
+    let all : to - 0 ≡ length hs = omega (arith, t .place, ap length (q .0)) in
+    same-remains (t .receiver ∙ ap (receiverAfter r) (q .0)) (sym (q .1))
+    (t .events ∙ ap (λ (l : List ℕ). sets events 0 (flatMap eventBytes (eventsOf r l))) (q .0))
+    (put ∙ ap (λ (n : ℕ). sets answers 0 (nought (8 * n))) all ∙ ap (sets answers 0) (sym (q .2)))
+  where
+    no : (g : Given) → isGiven g ≡ false → g ≡ No
+    no No e = refl
+    no (Yes m) e = absurd (false≢true (sym e))
 
 -- ---- the call
 
-pub lent-same : (h : List ℕ) {s s′ e e′ a a′ : List ℕ} → s ≡ s′ → e ≡ e′ → a ≡ a′ → lentTo s h e a ≡ lentTo s′ h e′ a′
+-- what is left by the call, where the bytes hold the receiver r
+lent-same : (h : List ℕ) {s s′ e e′ a a′ : List ℕ} → s ≡ s′ → e ≡ e′ → a ≡ a′ → lentTo s h e a ≡ lentTo s′ h e′ a′
 lent-same h p q r = rw (p, q, r)
 
-isDone : CountAnswer → Bool
-isDone (Counted n) = true
-isDone (NotCounted why) = false
+module _ (state halves events answers : List ℕ) (room : Room) (r : Receiver) (is : receiverIn state ≡ Is r)
+    (fits : 6 * length halves ≤ length events) (wide : 8 * length halves ≤ length answers) where
+  pub route-done : (next : Receiver) (room′ : Room) (state′ events′ answers′ : List ℕ)
+      → remains next room′ events′ answers′ ≡ remainsBy halves r 0 room events answers → state′ ≡ receiverBytes next
+      → (room′ ≡ mainsRoom (lentTo state halves events answers) room)
+      × (lentTo state′ halves events′ answers′ ≡ mainsLent (lentTo state halves events answers) room)
+  unfolding remainsBy eventsHeard bytesAfter
+  route-done next room′ state′ events′ answers′ e st =
+      let es : List ℕ = flatMap eventBytes (eventsOf r halves) in
+      let ans : List ℕ = answersHeard (eventsOf r halves) room in
+      let el : length es ≡ 6 * length halves = events-length r halves in
+      let al : length ans ≡ 8 * length halves = answers-length r halves room in
+      let ev : events′ ≡ es ++ drop (6 * length halves) events
+      = ap (λ (x : Remains). x .events) e ∙ sets-front es events (omega arith) ∙ ap (λ (n : ℕ). es ++ drop n events) el in
+      let an : answers′ ≡ ans ++ drop (8 * length halves) answers
+      = ap (λ (x : Remains). x .answers) e ∙ sets-front ans answers (omega arith) ∙ ap (λ (n : ℕ). ans ++ drop n answers) al in (
+        rw is (ap (λ (x : Remains). x .room) e),
+        rw is (lent-same halves (st ∙ ap receiverBytes (ap (λ (x : Remains). x .receiver) e)) ev an),
+      )
 
--- with a receiver in the bytes, the receiver's own answer tells whether the events have room
-module _ (state halves events : List ℕ) (holds : holdsReceiver state ≡ true) where
-  pub received : (k : ℕ) → receiveAnswer state halves (length events) ≡ Counted k → leb (6 * length halves) (length events) ≡ true
-  unfolding receiveAnswer judged isDone
-  received k e = go (leb (6 * length halves) (length events)) (rw holds at e)
-    where
-      go : (b : Bool) → pick b (Counted (length halves)) (NotCounted refusal.Short) ≡ Counted k → b ≡ true
-      go true p = refl
-      go false p = absurd (false≢true (ap isDone p))
+-- what a call owes that is not refused
+pub route-owed : (l : Lending) (t : List ℕ) (o : RoomAnswer) (room′ : Room) (lent′ : Lending) → tableOk t ≡ true → holdsReceiver (l .state) ≡ true
+    → 8 * length (l .halves) ≤ length (l .answers) → 6 * length (l .halves) ≤ length (l .events)
+    → o ≡ Done (changes (roomOf t) (mainsRoom l (roomOf t))) → room′ ≡ mainsRoom l (roomOf t) → lent′ ≡ mainsLent l (roomOf t)
+    → (o ≡ mainsAnswer l (roomOf t))
+    × ((roomReport o ≡ mainsReport l (roomOf t)) × ((room′ ≡ mainsAfter l (roomOf t)) × (lent′ ≡ lentAfter l (roomOf t))))
+unfolding mainsAnswer mainsAfter lentAfter judged
+route-owed l t o room′ lent′ ok holds wide fits e f g =
+    let long : roomLong (roomOf t) ≡ true = eq-eqb (length t) TABLE-BYTES (whole t ok .size) in
+    let w = le-leb (8 * length (l .halves)) (length (l .answers)) wide in
+    let v = le-leb (6 * length (l .halves)) (length (l .events)) fits in
+    (rw (long, ok, holds, w, v) e, (rw (long, ok, holds, w, v) (ap roomReport e), (rw (long, ok, holds, w, v) f, rw (long, ok, holds, w, v) g)))
 
-  pub not-received : (why : Refusal) → receiveAnswer state halves (length events) ≡ NotCounted why
-      → (leb (6 * length halves) (length events) ≡ false) × (why ≡ refusal.Short)
-  unfolding receiveAnswer judged isDone
-  not-received why e = go (leb (6 * length halves) (length events)) (rw holds at e)
-    where
-      go : (b : Bool) → pick b (Counted (length halves)) (NotCounted refusal.Short) ≡ NotCounted why → (b ≡ false) × (why ≡ refusal.Short)
-      go true p = absurd (false≢true (sym (ap isDone p)))
-      go false p = (refl, cc)
-
-  module _ (enough : leb (6 * length halves) (length events) ≡ true) where
-    state-run : stateAfter state halves (length events) ≡ bytesAfter state halves
-    unfolding stateAfter judged
-    state-run = rw (holds, enough)
-
-    pub events-run : eventsAfter state halves events ≡ flatMap eventBytes (eventsHeard state halves) ++ drop (6 * length halves) events
-    unfolding eventsAfter judged
-    events-run = rw (holds, enough)
-
-    -- the events then have their bytes
-    pub events-long : 6 * length halves ≤ length (eventsAfter state halves events)
-    events-long =
-        let es : List Event = eventsHeard state halves in
-        let all = ap length events-run ∙ length-append (flatMap eventBytes es) (drop (6 * length halves) events) in
-        omega (arith, all, bytes-length es, heard-length state halves holds)
-
-    module _ (table table′ answers state′ events′ answers′ : List ℕ) (c : Changes) (wide : 8 * length halves ≤ length answers)
-        (st : state′ ≡ stateAfter state halves (length events)) (ev : events′ ≡ eventsAfter state halves events)
-        (ch : c ≡ changes (roomOf table) (roomOf table′)) (rm : roomOf table′ ≡ codedRooms (length halves) events′ (roomOf table))
-        (an : answers′ ≡ sets answers 0 (codedAnswers (length halves) events′ (roomOf table))) where
-      es : List Event
-      es = eventsHeard state halves
-
-      count : length halves ≡ length es
-      unfolding es
-      count = sym (heard-length state halves holds)
-
-      applied : roomOf table′ ≡ roomHeard es (roomOf table)
-      unfolding es
-      applied =
-          rm
-          ∙ ap₂ (λ (k : ℕ) (l : List ℕ). codedRooms k l (roomOf table)) count (ev ∙ events-run)
-          ∙ events-applied es (drop (6 * length halves) events) (roomOf table) (heard-valid state halves)
-
-      answers-put : answers′ ≡ answersHeard es (roomOf table) ++ drop (8 * length halves) answers
-      unfolding es
-      answers-put =
-          let bytes : List ℕ = answersHeard es (roomOf table) in
-          let long : length bytes ≡ 8 * length halves = answers-length es (roomOf table) ∙ ap (λ (k : ℕ). 8 * k) (sym count) in
-          an
-          ∙ ap (sets answers 0) (
-          ap₂ (λ (k : ℕ) (l : List ℕ). codedAnswers k l (roomOf table)) count (ev ∙ events-run)
-          ∙ events-answered es (drop (6 * length halves) events) (roomOf table) (heard-valid state halves)
-          )
-          ∙ sets-front bytes answers (omega arith)
-          ∙ ap (λ (k : ℕ). bytes ++ drop k answers) long
-
-      pub routed-done : Routed (lentTo state halves events answers) (roomOf table) (Done c) (lentTo state′ halves events′ answers′) (roomOf table′)
-      unfolding judged es
-      routed-done = record {
-        answer-of = rw enough (ap Done (ch ∙ ap (changes (roomOf table)) applied));
-        room-of = rw enough applied;
-        lent-of = rw enough (lent-same halves (st ∙ state-run) (ev ∙ events-run) answers-put);
-      }
-
-  pub routed-refused : (table answers state′ events′ : List ℕ) (why : Refusal) → leb (6 * length halves) (length events) ≡ false
-      → why ≡ refusal.Short → state′ ≡ stateAfter state halves (length events) → events′ ≡ eventsAfter state halves events
-      → Routed (lentTo state halves events answers) (roomOf table) (NotDone why) (lentTo state′ halves events′ answers) (roomOf table)
-  unfolding judged stateAfter eventsAfter
-  routed-refused table answers state′ events′ why short w st ev = record {
-    answer-of = rw short (ap NotDone w);
-    room-of = rw short;
-    lent-of = rw short (lent-same halves (st ∙ rw (holds, short)) (ev ∙ rw (holds, short)) refl);
-  }
+-- a receiver put into bytes that held one
+pub put-held : (state : List ℕ) (q next : Receiver) → receiverIn state ≡ Is q → receiverOk next ≡ true → putAfter next state ≡ receiverBytes next
+unfolding putAfter judged
+put-held state q next is ok = rw (eq-eqb (length state) 11 (held-length state q is), ok) refl
 
 pub mains-lowest : MainsLowest
 mains-lowest l room = lowest-given (mainsCauses l room) refl

@@ -3,7 +3,7 @@
 --     getD-sets-before, getD-sets-after, getD-sets-in   an element of a list after a run of stores
 --     length-put, byte-put-own, byte-put-apart          the length and the bytes after a record is put
 --     record-ext                                        records whose bytes agree are equal
---     record-put-own, record-put-other, put-same        the records after a record is put; one put where it lies
+--     record-put-own, record-put-other, put-as          the records after a record is put; what a record put is
 --     byte-of-record                                    a byte of a table as a byte of its record
 --     length-put-house, record-put-house, house-put-own, house-put-other, house-put       records and houses' own bytes do not meet
 --     changed-ext, changed-none                         the count looks at levels only; it is 0 where nothing changed
@@ -26,7 +26,7 @@ use lib.ListN.{length, getD, set, length-set}
 use lib.Seq.{sets, length-sets, getD-set-same, getD-set-other, ext-getD}
 use Rattle.ground.specs.Choice.{pick}
 use Rattle.plan.specs.declared.Act.{Act}
-use Rattle.record.specs.Layout.{RECORD-BYTES, UNITS, HOUSES, RECORDS, HEARD-AT, TABLE-BYTES, recordAt, bytesOf, put, houseAt, putHouse}
+use Rattle.record.specs.Layout.{RECORD-BYTES, UNITS, HOUSES, RECORDS, HEARD-AT, TABLE-BYTES, recordAt, recordBytes, put, houseAt, putHouse}
 use Rattle.record.specs.ModuleTable.{stepRecord, stepHouse, houseAfter, runAct, changed}
 use Rattle.record.specs.declared.Record.{Record}
 use Rattle.record.specs.declared.House.{House}
@@ -59,12 +59,12 @@ module _ {A : Type 0} where
 
 pub length-put : (t : List ℕ) (i : ℕ) (r : Record) → length (put t i r) ≡ length t
 unfolding put
-length-put t i r = length-sets t (i * RECORD-BYTES) (bytesOf r)
+length-put t i r = length-sets t (i * RECORD-BYTES) (recordBytes r)
 
 pub byte-put-own : (t : List ℕ) (i k : ℕ) (r : Record) → i * RECORD-BYTES + RECORD-BYTES ≤ length t → k < RECORD-BYTES
-    → getD (put t i r) (i * RECORD-BYTES + k) 0 ≡ getD (bytesOf r) k 0
+    → getD (put t i r) (i * RECORD-BYTES + k) 0 ≡ getD (recordBytes r) k 0
 unfolding put
-byte-put-own t i k r h hk = getD-sets-in (bytesOf r) t (i * RECORD-BYTES) k 0 hk h
+byte-put-own t i k r h hk = getD-sets-in (recordBytes r) t (i * RECORD-BYTES) k 0 hk h
 
 -- a byte that lies before or after the record's
 abbrev pub Apart : ℕ → ℕ → Type 0
@@ -74,8 +74,8 @@ pub byte-put-apart : (t : List ℕ) (i j : ℕ) (r : Record) (d : ℕ) → Apart
 unfolding put
 byte-put-apart t i j r d =
     ⊎-elim
-    (λ h. getD-sets-before (bytesOf r) t (i * RECORD-BYTES) j d h)
-    (λ h. getD-sets-after (bytesOf r) t (i * RECORD-BYTES) j d h)
+    (λ h. getD-sets-before (recordBytes r) t (i * RECORD-BYTES) j d h)
+    (λ h. getD-sets-after (recordBytes r) t (i * RECORD-BYTES) j d h)
 
 -- ---- the records
 
@@ -98,10 +98,10 @@ record-ext t u i j e =
 pub record-put-own : (t : List ℕ) (i : ℕ) (r : Record) → i * RECORD-BYTES + RECORD-BYTES ≤ length t → recordAt (put t i r) i ≡ r
 unfolding recordAt
 record-put-own t i r h =
-    record-ext (put t i r) (bytesOf r) i 0
-    (λ k hk. byte-put-own t i k r h hk ∙ ap (λ (n : ℕ). getD (bytesOf r) n 0) (sym (zero-add k)))
+    record-ext (put t i r) (recordBytes r) i 0
+    (λ k hk. byte-put-own t i k r h hk ∙ ap (λ (n : ℕ). getD (recordBytes r) n 0) (sym (zero-add k)))
 
-pub byte-of-record : (t : List ℕ) (i k : ℕ) → k < RECORD-BYTES → getD t (i * RECORD-BYTES + k) 0 ≡ getD (bytesOf (recordAt t i)) k 0
+pub byte-of-record : (t : List ℕ) (i k : ℕ) → k < RECORD-BYTES → getD t (i * RECORD-BYTES + k) 0 ≡ getD (recordBytes (recordAt t i)) k 0
 unfolding recordAt
 byte-of-record t i zero h = ap (λ (j : ℕ). getD t j 0) (add-zero (i * RECORD-BYTES))
 byte-of-record t i (suc zero) h = refl
@@ -113,23 +113,27 @@ byte-of-record t i (suc (suc (suc (suc (suc (suc zero)))))) h = refl
 byte-of-record t i (suc (suc (suc (suc (suc (suc (suc zero))))))) h = refl
 byte-of-record t i (suc (suc (suc (suc (suc (suc (suc (suc k)))))))) h = absurd (omega arith)
 
--- a record put where it lies
-pub put-same : (t : List ℕ) (i : ℕ) → i * RECORD-BYTES + RECORD-BYTES ≤ length t → put t i (recordAt t i) ≡ t
-put-same t i h =
-    ext-getD 0 (put t i (recordAt t i)) t (length-put t i (recordAt t i))
+-- a table that differs in no byte but those of one record is that record put
+pub put-as : (t u : List ℕ) (i : ℕ) → i * RECORD-BYTES + RECORD-BYTES ≤ length t → length u ≡ length t
+    → ((j : ℕ) → Apart i j → getD u j 0 ≡ getD t j 0) → put t i (recordAt u i) ≡ u
+put-as t u i h size same =
+    ext-getD 0 (put t i r) u (length-put t i r ∙ sym size)
     (λ j low. go j (decLt j (i * RECORD-BYTES)) (decLt j (i * RECORD-BYTES + RECORD-BYTES)))
   where
     r : Record
-    r = recordAt t i
+    r = recordAt u i
 
-    go : (j : ℕ) → Dec (j < i * RECORD-BYTES) → Dec (j < i * RECORD-BYTES + RECORD-BYTES) → getD (put t i r) j 0 ≡ getD t j 0
-    go j (yes before) q = byte-put-apart t i j r 0 (inl before)
-    go j (no from) (no behind) = byte-put-apart t i j r 0 (inr (omega arith))
+    outside : (j : ℕ) → Apart i j → getD (put t i r) j 0 ≡ getD u j 0
+    outside j apart = byte-put-apart t i j r 0 apart ∙ sym (same j apart)
+
+    go : (j : ℕ) → Dec (j < i * RECORD-BYTES) → Dec (j < i * RECORD-BYTES + RECORD-BYTES) → getD (put t i r) j 0 ≡ getD u j 0
+    go j (yes before) q = outside j (inl before)
+    go j (no from) (no behind) = outside j (inr (omega arith))
     go j (no from) (yes within) =
         let k = j - i * RECORD-BYTES in
         let place : i * RECORD-BYTES + k ≡ j = omega arith in
-        subst (λ (x : ℕ). getD (put t i r) x 0 ≡ getD t x 0) place
-        (byte-put-own t i k r h (omega arith) ∙ sym (byte-of-record t i k (omega arith)))
+        subst (λ (x : ℕ). getD (put t i r) x 0 ≡ getD u x 0) place
+        (byte-put-own t i k r h (omega arith) ∙ sym (byte-of-record u i k (omega arith)))
 
 -- the bytes of one record lie apart from another record
 apart : (i j k : ℕ) → (i ≡ j → ⊥) → k < RECORD-BYTES → Apart i (j * RECORD-BYTES + k)

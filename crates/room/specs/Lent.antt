@@ -1,25 +1,27 @@
--- What the private routines over lent bytes promise beside the definitions of 01's section: one record stepped where it lies, and events
--- read back from their bytes.
-use Prim.Native.Nat.{ℕ, zero, suc, _-_, _*_, _≤_}
+-- What the private routines over lent bytes promise beside the definitions of 01's section 'The module table': one record stepped where it
+-- lies, and half-cycles taken stretch after stretch, up to the first that gives MESSAGE.
+use Prim.Native.Nat.{ℕ, _-_, _*_, _≤_}
 use mathlib.Core.Path.{_≡_}
-use mathlib.Core.List.{List, [], _++_}
+use mathlib.Core.Bool.{Bool, true, false}
+use mathlib.Core.List.{List, _++_, flatMap}
 use lib.Dec.{eqb}
-use lib.ListN.{length, getD, drop}
+use lib.ListN.{length, drop, replicate}
 use lib.Seq.{sets}
 use Rattle.ground.specs.Choice.{pick}
-use Rattle.ground.specs.Refusals.{judged}
-use Rattle.wire.specs.Messages.{messageIn}
-use Rattle.wire.specs.Packed.{packed}
-use Rattle.wire.specs.declared.MessageRead.{MessageRead}
-use Rattle.wire.specs.declared.MessageRead.the-variants.{Message as Says, Refused as NoMessage}
+use Rattle.ground.specs.declared.CountAnswer.{CountAnswer}
+use Rattle.ground.specs.declared.CountAnswer.the-variants.{Done, Refused}
+use Rattle.receiver.specs.Receivers.{receiverOk}
+use Rattle.receiver.specs.Hearing.{eventsOf, receiverAfter}
+use Rattle.receiver.specs.Bytes.{eventBytes}
+use Rattle.receiver.specs.declared.Given.{Given}
+use Rattle.receiver.specs.declared.Given.the-variants.{No, Yes}
+use Rattle.receiver.specs.declared.Receiver.{Receiver}
 use Rattle.plan.specs.declared.Act.{Act}
 use Rattle.record.specs.Layout.{recordAt, put}
-use Rattle.record.specs.ModuleTable.{stepRecord}
+use Rattle.record.specs.ModuleTable.{tableOk, stepRecord}
 use Rattle.record.specs.declared.House.{House}
-use Rattle.room.specs.Rooms.{Room, changes, roomAfter, applyAnswer, tallied}
-use Rattle.room.specs.Mains.{answerBytes, Lending, eventCauses, mainsRoom, mainsLent}
-use Rattle.room.specs.declared.RoomAnswer.{RoomAnswer}
-use Rattle.room.specs.declared.RoomAnswer.the-variants.{Done, Refused}
+use Rattle.room.specs.Rooms.{Room}
+use Rattle.room.specs.Mains.{answerGiven, answerBytes, roomHeard, answersHeard}
 
 -- record i is stepped as that of unit n, and the answer is 1 where its level changed
 pub record Stepped (a : Act) (own : House) (n i : ℕ) (before after : List ℕ) (answer : ℕ) : Type 0 where
@@ -27,46 +29,44 @@ pub record Stepped (a : Act) (own : House) (n i : ℕ) (before after : List ℕ)
   pub count : answer ≡ pick (eqb (recordAt before i .level) (stepRecord a own n (recordAt before i) .level)) 0 1
   pub small : answer ≤ 1
 
--- a message that was read, applied
-abbrev pub readRoom : MessageRead → Room → Room
-readRoom (Says m) room = roomAfter m room
-readRoom (NoMessage why) room = room
+-- ---- a stretch of half-cycles
 
-abbrev pub readAnswer : MessageRead → Room → ℕ
-readAnswer (Says m) room = packed (tallied (applyAnswer m room))
-readAnswer (NoMessage why) room = 0
+abbrev pub isGiven : Given → Bool
+isGiven No = false
+isGiven (Yes m) = true
 
--- an event by its code and its message
-abbrev pub codedRoom : ℕ → MessageRead → Room → Room
-codedRoom code read room = pick (eqb code 1) (readRoom read room) room
+-- the place that a run has come to, and the end where it was refused
+abbrev pub placeOf : CountAnswer → ℕ → ℕ
+placeOf (Done at) end = at
+placeOf (Refused why) end = end
 
-abbrev pub codedAnswer : ℕ → MessageRead → Room → ℕ
-codedAnswer code read room = pick (eqb code 1) (readAnswer read room) 0
+-- the answers to n half-cycles, of which the last may have given a message
+abbrev pub stretchAnswers : ℕ → Given → Room → List ℕ
+stretchAnswers n given room = replicate (8 * (n - 1)) 0 ++ answerBytes (answerGiven given room)
 
--- n events, six bytes each, one after the other
-abbrev pub firstRoom : List ℕ → Room → Room
-firstRoom bytes room = codedRoom (getD bytes 0 0) (messageIn (drop 1 bytes)) room
+-- ---- all half-cycles from a place on
 
-unfoldable pub codedRooms : ℕ → List ℕ → Room → Room
-codedRooms zero bytes room = room
-codedRooms (suc n) bytes room = codedRooms n (drop 6 bytes) (firstRoom bytes room)
+-- the receiver and the table are judged, and both buffers have space
+pub record Prepared (r : Receiver) (halves : List ℕ) (i : ℕ) (table events answers : List ℕ) : Type 0 where
+  pub receiver : receiverOk r ≡ true
+  pub place : i ≤ length halves
+  pub rules : tableOk table ≡ true
+  pub events-space : 6 * length halves ≤ length events
+  pub answers-space : 8 * length halves ≤ length answers
 
-unfoldable pub codedAnswers : ℕ → List ℕ → Room → List ℕ
-codedAnswers zero bytes room = []
-codedAnswers (suc n) bytes room =
-    answerBytes (codedAnswer (getD bytes 0 0) (messageIn (drop 1 bytes)) room) ++ codedAnswers n (drop 6 bytes) (firstRoom bytes room)
+-- what they leave: the receiver, the room, and both buffers
+pub record Remains : Type 0 where
+  pub receiver : Receiver
+  pub room : Room
+  pub events : List ℕ
+  pub answers : List ℕ
 
--- from event i on to event j: what is still to come of n events, from there, is all that was to come
-pub record Came (n : ℕ) (events : List ℕ) (roomThen : Room) (answersThen : List ℕ) (i : ℕ) (room : Room) (answers : List ℕ) (j : ℕ) : Type 0 where
-  pub later : i ≤ j
-  pub within : j ≤ n
-  pub wide : length answers ≡ length answersThen
-  pub rooms : codedRooms (n - j) (drop (6 * j) events) room ≡ codedRooms (n - i) (drop (6 * i) events) roomThen
-  pub bytes : sets answers (8 * j) (codedAnswers (n - j) (drop (6 * j) events) room)
-      ≡ sets answersThen (8 * i) (codedAnswers (n - i) (drop (6 * i) events) roomThen)
+abbrev pub remains : Receiver → Room → List ℕ → List ℕ → Remains
+remains r room events answers = record { receiver = r; room = room; events = events; answers = answers }
 
--- the mains route once the room, the receiver and the answers' buffer are judged: what is left of its causes is room for the events
-pub record Routed (l : Lending) (room : Room) (answer : RoomAnswer) (lentThen : Lending) (roomThen : Room) : Type 0 where
-  pub answer-of : answer ≡ judged (eventCauses l) (Done (changes room (mainsRoom l room))) Refused
-  pub room-of : roomThen ≡ judged (eventCauses l) (mainsRoom l room) (λ why. room)
-  pub lent-of : lentThen ≡ judged (eventCauses l) (mainsLent l room) (λ why. l)
+-- by the half-cycles from place i on
+unfoldable pub remainsBy : List ℕ → Receiver → ℕ → Room → List ℕ → List ℕ → Remains
+remainsBy halves r i room events answers =
+    remains (receiverAfter r (drop i halves)) (roomHeard (eventsOf r (drop i halves)) room)
+    (sets events (6 * i) (flatMap eventBytes (eventsOf r (drop i halves))))
+    (sets answers (8 * i) (answersHeard (eventsOf r (drop i halves)) room))

@@ -1,5 +1,5 @@
 -- The mains route: half-cycles through the receiver in lent bytes, one after the other, and each message that it gives applied to the room
--- before the next. It is given what a receiver is given (wire's Receivers) and a buffer for what the table answers.
+-- before the next. It is given what a receiver is given (receiver's Bytes) and a buffer for what the table answers.
 use Prim.Native.Nat.{ℕ, _*_, _/_, _%_, _^_}
 use mathlib.Core.Path.{_≡_}
 use mathlib.Core.List.{List, [], _∷_, _++_, flatMap}
@@ -8,9 +8,11 @@ use lib.ListN.{length, drop}
 use Rattle.ground.specs.Refusals.{Report, reports, refuses, Cause, unless, judged, numberGiven, lowest}
 use Rattle.ground.specs.declared.Refusal.the-variants as refusal
 use Rattle.receiver.specs.declared.Event.{Event}
-use Rattle.receiver.specs.declared.Event.the-variants.{Nothing, Message as Gives, Repeat, BrokenPair, BrokenUnsupported, Refused as Stays}
+use Rattle.receiver.specs.declared.Given.{Given}
+use Rattle.receiver.specs.declared.Given.the-variants.{No, Yes}
+use Rattle.receiver.specs.Hearing.{givenBy}
 use Rattle.wire.specs.Packed.{packed}
-use Rattle.wire.specs.Receivers.{holdsReceiver, eventBytes, eventsHeard, bytesAfter}
+use Rattle.receiver.specs.Bytes.{holdsReceiver, eventBytes, eventsHeard, bytesAfter}
 use Rattle.room.specs.Rooms.{Room, changes, roomAfter, applyAnswer, tallied}
 use Rattle.room.specs.Routes.{roomCauses}
 use Rattle.room.specs.declared.RoomAnswer.{RoomAnswer}
@@ -18,23 +20,15 @@ use Rattle.room.specs.declared.RoomAnswer.the-variants.{Done, Refused}
 
 -- ---- one event
 
--- the room after an event: MESSAGE is applied, and REPEAT is not
-abbrev pub eventRoom : Event → Room → Room
-eventRoom (Gives m) room = roomAfter m room
-eventRoom Nothing room = room
-eventRoom Repeat room = room
-eventRoom BrokenPair room = room
-eventRoom BrokenUnsupported room = room
-eventRoom (Stays why) room = room
+-- the room after an event: the message of MESSAGE is applied, and no other event gives one
+abbrev pub roomGiven : Given → Room → Room
+roomGiven No room = room
+roomGiven (Yes m) room = roomAfter m room
 
 -- what the table answers to it, as one number: 0 where there is no message, and 4 for one that is not carried
-abbrev pub eventAnswer : Event → Room → ℕ
-eventAnswer (Gives m) room = packed (tallied (applyAnswer m room))
-eventAnswer Nothing room = 0
-eventAnswer Repeat room = 0
-eventAnswer BrokenPair room = 0
-eventAnswer BrokenUnsupported room = 0
-eventAnswer (Stays why) room = 0
+abbrev pub answerGiven : Given → Room → ℕ
+answerGiven No room = 0
+answerGiven (Yes m) room = packed (tallied (applyAnswer m room))
 
 -- that number in eight bytes, the lowest first
 abbrev pub answerBytes : ℕ → List ℕ
@@ -46,11 +40,11 @@ answerBytes n =
 
 unfoldable pub roomHeard : List Event → Room → Room
 roomHeard [] room = room
-roomHeard (e ∷ es) room = roomHeard es (eventRoom e room)
+roomHeard (e ∷ es) room = roomHeard es (roomGiven (givenBy e) room)
 
 unfoldable pub answersHeard : List Event → Room → List ℕ
 answersHeard [] room = []
-answersHeard (e ∷ es) room = answerBytes (eventAnswer e room) ++ answersHeard es (eventRoom e room)
+answersHeard (e ∷ es) room = answerBytes (answerGiven (givenBy e) room) ++ answersHeard es (roomGiven (givenBy e) room)
 
 -- ---- a call
 
@@ -64,16 +58,17 @@ pub record Lending : Type 0 where
 abbrev pub lentTo : List ℕ → List ℕ → List ℕ → List ℕ → Lending
 lentTo state halves events answers = record { state = state; halves = halves; events = events; answers = answers }
 
-abbrev pub eventCauses : Lending → List Cause
-eventCauses l = unless (leb (6 * length (l .halves)) (length (l .events))) refusal.Short ∷ []
-
--- 1 and 3; 6 for a receiver in no state that there is; 9 where the answers, eight bytes each, or the events, six, have no room
-abbrev pub mainsCauses : Lending → Room → List Cause
-mainsCauses l room =
-    roomCauses room
-    ++ (unless (holdsReceiver (l .state)) refusal.State
+-- 6 for a receiver in no state that there is; 9 where the answers, eight bytes each, or the events, six, have no room
+abbrev pub lentCauses : Lending → List Cause
+lentCauses l =
+    unless (holdsReceiver (l .state)) refusal.State
     ∷ unless (leb (8 * length (l .halves)) (length (l .answers))) refusal.Short
-    ∷ eventCauses l)
+    ∷ unless (leb (6 * length (l .halves)) (length (l .events))) refusal.Short
+    ∷ []
+
+-- 1 and 3, and these
+abbrev pub mainsCauses : Lending → Room → List Cause
+mainsCauses l room = roomCauses room ++ lentCauses l
 
 -- the events of the half-cycles, and the room once their messages have been applied
 abbrev pub heard : Lending → List Event

@@ -11,15 +11,21 @@ use record::Record;
 use record::TABLE_BYTES;
 use record::UNITS;
 use record::house_valid;
+use record::step::addressed_after;
+use record::step::groups_after;
 use record::step::house_after;
-use record::step::step;
+use record::step::keeps_groups;
+use record::step::level_after;
 ghost use mathlib.Core.Path.{_≡_};
-ghost use mathlib.Core.Bool.{false};
-ghost use Prim.Native.Nat.{ℕ, _<_};
+ghost use mathlib.Core.Bool.{true, false};
+ghost use Prim.Native.Nat.{ℕ, _≤_, _<_};
 ghost use lib.ListN.{length};
+ghost use Rattle.ground.specs.Choice.{pick};
 ghost use Rattle.record.specs.declared.Record.{Record};
-ghost use Rattle.record.specs.Layout.{RECORDS, HOUSES, UNITS, TABLE-BYTES, recordAt, put, houseAt, putHouse};
+ghost use Rattle.record.specs.declared.House.{House};
+ghost use Rattle.record.specs.Layout.{RECORDS, HOUSES, UNITS, TABLE-BYTES, present, recordAt, put, houseAt, putHouse};
 ghost use Rattle.record.specs.ModuleTable.{recordOk, houseOk, recordsOk, housesOk, tableOk, obeyed, stepHouse, runAct, changed};
+ghost use Rattle.record.specs.Parts.{keepsGroups};
 ghost use Rattle.room.specs.Lent.{Stepped};
 ghost use Rattle.room.specs.Reaches.{mayChange, Spares};
 
@@ -139,21 +145,27 @@ pub(crate) fn valid(t: &[u8]) -> bool
     records_ok(t) & houses_ok(t)
 }
 
-// Which records of a house may change: that of one unit, those that are addressed, or any. A unit above 15 is none.
+// Which records of a house may change: that of one unit, and those whose "addressed" byte is `floor` or more. A unit above 15 is none,
+// a floor of 0 is any record, 1 those that are addressed, and 2 none, since that byte is 0 or 1.
 struct Reach {
     unit: u8,
-    called: bool,
-    any: bool,
+    floor: u8,
 }
 
-fn reaching(unit: u8, called: bool, any: bool) -> Reach
-    ensures { λ o. ⌜ o ≡ record { unit = unit; called = called; any = any } ⌝ }
+fn reaching(unit: u8, floor: u8) -> Reach
+    ensures { λ o. ⌜ o ≡ record { unit = unit; floor = floor } ⌝ }
 {
     Reach {
         unit: unit,
-        called: called,
-        any: any,
+        floor: floor,
     }
+}
+
+// The floor of an address, by whether the house has heard a command.
+fn address_floor(heard: bool) -> u8
+    ensures { λ x. ⌜ x ≡ pick heard 1 2 ⌝ }
+{
+    if heard { 1 } else { 2 }
 }
 
 // Which records a function may change.
@@ -161,18 +173,18 @@ fn reach_by(f: Function) -> Reach
     ensures { λ o. ⌜ ((n : ℕ) (r : Record) → mayChange o n r ≡ false → obeyed f r ≡ r) ⌝ }
 {
     match f {
-        Function::On => reaching(255, true, false),
-        Function::Off => reaching(255, true, false),
-        Function::Dim => reaching(255, true, false),
-        Function::Bright => reaching(255, true, false),
-        Function::AllLightsOn => reaching(255, false, true),
-        Function::AllLightsOff => reaching(255, false, true),
-        Function::AllUnitsOff => reaching(255, false, true),
-        Function::HailRequest => reaching(255, false, false),
-        Function::HailAcknowledge => reaching(255, false, false),
-        Function::StatusOn => reaching(255, false, false),
-        Function::StatusOff => reaching(255, false, false),
-        Function::StatusRequest => reaching(255, false, false),
+        Function::On => reaching(255, 1),
+        Function::Off => reaching(255, 1),
+        Function::Dim => reaching(255, 1),
+        Function::Bright => reaching(255, 1),
+        Function::AllLightsOn => reaching(255, 0),
+        Function::AllLightsOff => reaching(255, 0),
+        Function::AllUnitsOff => reaching(255, 0),
+        Function::HailRequest => reaching(255, 2),
+        Function::HailAcknowledge => reaching(255, 2),
+        Function::StatusOn => reaching(255, 2),
+        Function::StatusOff => reaching(255, 2),
+        Function::StatusRequest => reaching(255, 2),
     }
 }
 
@@ -181,45 +193,78 @@ fn reach_of(act: Act, own: House) -> Reach
     ensures { λ o. ⌜ Spares act own o ⌝ }
 {
     match act {
-        Act::Nothing => reaching(255, false, false),
-        Act::Address { unit } => reaching(unit, own.heard == 1, false),
+        Act::Nothing => reaching(255, 2),
+        Act::Address { unit } => reaching(unit, address_floor(own.heard == 1)),
         Act::Obey(f) => reach_by(f),
-        Act::Join { unit, group: _ } => reaching(unit, false, false),
-        Act::Level { unit, level: _ } => reaching(unit, false, false),
+        Act::Join { unit, group: _ } => reaching(unit, 2),
+        Act::Level { unit, level: _ } => reaching(unit, 2),
         Act::JoinAt {
             unit,
             group: _,
             level: _,
-        } => reaching(unit, false, false),
-        Act::UnitsOn => reaching(255, false, true),
-        Act::UnitsOff => reaching(255, false, true),
-        Act::Leave { unit, groups: _ } => reaching(unit, false, false),
-        Act::LeaveHouse { groups: _ } => reaching(255, false, true),
-        Act::Execute { group: _ } => reaching(255, false, true),
-        Act::GroupOff { group: _ } => reaching(255, false, true),
-        Act::GroupDim { group: _ } => reaching(255, false, true),
-        Act::GroupBright { group: _ } => reaching(255, false, true),
+        } => reaching(unit, 2),
+        Act::UnitsOn => reaching(255, 0),
+        Act::UnitsOff => reaching(255, 0),
+        Act::Leave { unit, groups: _ } => reaching(unit, 2),
+        Act::LeaveHouse { groups: _ } => reaching(255, 0),
+        Act::Execute { group: _ } => reaching(255, 0),
+        Act::GroupOff { group: _ } => reaching(255, 0),
+        Act::GroupDim { group: _ } => reaching(255, 0),
+        Act::GroupBright { group: _ } => reaching(255, 0),
     }
 }
 
-// Steps record i of a table, as that of unit n, and answers 1 where its level changed.
+// The count of one level, by whether it stayed the same.
+pub(crate) fn count_of(same: bool) -> usize
+    ensures { λ r. ⌜ (r ≡ pick same 0 1) × (r ≤ 1) ⌝ }
+{
+    if same { 0 } else { 1 }
+}
+
+// Steps record i of a table, as that of unit n, where a module is there and the act keeps its groups: two of its bytes are stored.
+// Answers 1 where its level changed.
+fn step_level(t: &mut [u8], i: usize, act: Act, own: House, n: u8) -> usize
+    requires { ⌜ (length (now t) ≡ TABLE-BYTES) × (i < RECORDS) × (present (recordAt (now t) i) ≡ true) × (keepsGroups act ≡ true) ⌝ }
+    ensures { λ r. ⌜ Stepped act own n i (now (t .entry)) (now (t .exit)) r ⌝ }
+{
+    let before = load(t, i);
+    let level = level_after(act, n, before);
+    let addressed = addressed_after(act, own, n, before);
+    let at = i * RECORD_BYTES;
+    t[at + 1] = level;
+    t[at + 2] = addressed;
+    count_of(before.level == level)
+}
+
+// The same where the act may change its groups. No level changes, whatever the house's own bytes.
+fn step_groups(t: &mut [u8], i: usize, act: Act, n: u8) -> usize
+    requires { ⌜ (length (now t) ≡ TABLE-BYTES) × (i < RECORDS) × (present (recordAt (now t) i) ≡ true) × (keepsGroups act ≡ false) ⌝ }
+    ensures { λ r. ⌜ ((own : House) → Stepped act own n i (now (t .entry)) (now (t .exit)) r) ⌝ }
+{
+    store(t, i, groups_after(act, n, load(t, i)));
+    0
+}
+
+// Steps record i of a table, as that of unit n, and answers 1 where its level changed. An absent unit stays as it is.
 fn step_record(t: &mut [u8], i: usize, act: Act, own: House, n: u8) -> usize
     requires { ⌜ (length (now t) ≡ TABLE-BYTES) × (i < RECORDS) ⌝ }
     ensures { λ r. ⌜ Stepped act own n i (now (t .entry)) (now (t .exit)) r ⌝ }
 {
-    let before = load(t, i);
-    let after = step(act, own, n, before);
-    store(t, i, after);
-    if before.level == after.level { 0 } else { 1 }
+    if t[i * RECORD_BYTES] == 0 {
+        return 0;
+    }
+    if keeps_groups(act) {
+        return step_level(t, i, act, own, n);
+    }
+    step_groups(t, i, act, n)
 }
 
-// The same, and a record that does not change is passed over by a look at one byte.
+// The same, and a record that the act does not reach is passed over by a look at one byte.
 fn step_at(t: &mut [u8], i: usize, act: Act, own: House, n: u8, o: Reach) -> usize
     requires { ⌜ (length (now t) ≡ TABLE-BYTES) × (i < RECORDS) × Spares act own o ⌝ }
     ensures { λ r. ⌜ Stepped act own n i (now (t .entry)) (now (t .exit)) r ⌝ }
 {
-    let called = !(t[i * RECORD_BYTES + 2] == 0);
-    if o.any | ((n == o.unit) | (o.called & called)) {
+    if (o.floor <= t[i * RECORD_BYTES + 2]) | (n == o.unit) {
         step_record(t, i, act, own, n)
     } else {
         0

@@ -7,11 +7,14 @@
 use mathlib.Core.Path.{_≡_, refl, sym, ap, ap₂, subst, _∙_}
 use mathlib.Core.Bool.{true, and-eq-true-iff}
 use mathlib.Core.List.{List, [], _∷_, _++_, append-nil, map, flatMap}
-use Prim.Native.Nat.{ℕ, zero, suc, _-_, _≤_}
+use Prim.Native.Nat.{ℕ, zero, suc, _-_, _*_, _≤_}
 use native.Mathlib.Omega.{arith}
 use lib.Dec.{leb}
-use lib.ListN.{replicate}
+use lib.ListN.{length, replicate, length-replicate}
 use lib.Seq.{append-snoc}
+use borrow.Author.Tests.{le-leb}
+use Rattle.ground.specs.Refusals.{judged}
+use Rattle.ground.specs.declared.Refusal.{Refusal}
 use Rattle.ground.proofs.Causes.{judged-map}
 use Rattle.message.specs.Messages.{messageOk, BytesOk}
 use Rattle.message.specs.declared.Message.{Message}
@@ -29,8 +32,8 @@ use Rattle.receiver_laws.proofs.Pasts.{six-append, clean-burst}
 use Rattle.receiver_laws.proofs.Rests.{Rests, rests-hunting, rests-fresh, rests-step, rests-next, rests-ready}
 use Rattle.receiver_laws.proofs.Told.{tells-run}
 use Rattle.receiver_laws.proofs.Whole.{every-burst-is-heard}
-use Rattle.wire.specs.Receivers.{receiverBytes, eventsBy, eventsHeard}
-use Rattle.wire.proofs.ReadBack.{receivers-read-back}
+use Rattle.receiver.specs.Bytes.{isReceiver, receiverBytes, eventsBy, eventsHeard}
+use Rattle.receiver.proofs.ReadBack.{receivers-read-back}
 use Rattle.radio.specs.Codes.{fourBytes, commandOk, commandOf}
 use Rattle.radio.specs.Answers.{readCauses, readAnswer, messagesOf}
 use Rattle.radio.specs.declared.RadioCommand.{RadioCommand}
@@ -38,7 +41,8 @@ use Rattle.radio.specs.declared.RadioCommand.the-variants.{On, Off, Bright, Dim
 use Rattle.radio.specs.declared.RadioRead.{RadioRead}
 use Rattle.radio.specs.declared.RadioRead.the-variants as read
 use Rattle.radio.proofs.AnswerLaws.{read-given}
-use Rattle.room_laws.specs.Demand2.{radio, meantBy, Sending, onLine, toFresh, Spaced, AllOk, BurstsAsCodes}
+use Rattle.room_laws.specs.Demand2.{radio, meantBy, Sending, onLine, lending, toFresh, Spaced, AllOk, BurstsAsCodes}
+use Rattle.room.specs.Mains.{lentCauses}
 use Rattle.room_laws.proofs.Carried.{demand-2}
 
 -- ---- messages that have a burst
@@ -137,10 +141,21 @@ fresh-hears : (halves : List ℕ) → eventsHeard (receiverBytes freshReceiver) 
 unfolding eventsHeard
 fresh-hears halves = ap (λ x. eventsBy x halves) (receivers-read-back freshReceiver fresh-is-valid)
 
+-- with room for what it leaves, the call is not refused
+fresh-called : (halves : List ℕ) {A : Type 0} (done : A) (refused : Refusal → A) → judged (lentCauses (lending
+    (receiverBytes freshReceiver) halves)) done refused ≡ done
+unfolding judged
+fresh-called halves done refused =
+    rw (ap isReceiver (receivers-read-back freshReceiver fresh-is-valid), room (8 * length halves), room (6 * length halves))
+  where
+    room : (n : ℕ) → leb n (length {A = ℕ} (replicate n 0)) ≡ true
+    room n = le-leb n (length {A = ℕ} (replicate n 0)) (omega (arith, length-replicate {A = ℕ} n 0))
+
 pub bursts-as-codes : BurstsAsCodes
 bursts-as-codes ks line ok spaced same =
     let fine = subst AllFine (sym same) (commands-fine ks ok) in
-    let heard = ap told (fresh-hears (onLine line)) ∙ line-carries line freshReceiver spaced fine rests-fresh ∙ same in
+    let heard = fresh-called (onLine line) (told (eventsHeard (receiverBytes freshReceiver) (onLine line))) (λ why. [])
+    ∙ ap told (fresh-hears (onLine line)) ∙ line-carries line freshReceiver spaced fine rests-fresh ∙ same in
     let read = codes-carry ks ok in
     record {
       by-mains = heard;

@@ -7,13 +7,11 @@
 use mathlib.Core.Path.{_≡_, refl, sym, ap, ap₂, _∙_}
 use mathlib.Core.Bool.{Bool, true, false, true≢false}
 use mathlib.Core.List.{List, [], _∷_, _++_, append-assoc, flatMap}
-use Prim.Native.Nat.{ℕ, zero, suc, _+_, _*_, _/_, _%_, _^_, _≤_, _<_}
+use Prim.Native.Nat.{ℕ, _+_, _*_, _/_, _%_, _^_, _≤_, _<_}
 use native.Mathlib.Omega.{arith}
 use native.Mathlib.Nat.{zero-add, add-assoc, div-eq-of-lt}
-use borrow.Author.Tests.{le-leb}
 use lib.Dec.{leb}
-use lib.ListN.{length, getD, drop, replicate, length-replicate}
-use lib.Seq.{getD-drop}
+use lib.ListN.{length, drop}
 use Rattle.ground.specs.Refusals.{refusalNumber, Cause, judged}
 use Rattle.ground.specs.declared.Refusal.{Refusal}
 use Rattle.ground.specs.declared.Refusal.the-variants as refusal
@@ -22,13 +20,13 @@ use Rattle.message.specs.declared.Function.{Function}
 use Rattle.message.specs.declared.Message.{Message}
 use Rattle.message.specs.declared.Message.the-variants.{Address, Function as Command}
 use Rattle.receiver.specs.declared.Event.{Event}
-use Rattle.receiver.specs.declared.Event.the-variants.{Nothing, Message as Gives, Repeat, BrokenPair, BrokenUnsupported, Refused as Stays}
-use Rattle.receiver_laws.specs.Inversion.{givenBy, told}
+use Rattle.receiver.specs.declared.Given.{Given}
+use Rattle.receiver.specs.declared.Given.the-variants.{No, Yes}
+use Rattle.receiver.specs.Hearing.{givenBy}
+use Rattle.receiver_laws.specs.Inversion.{asList, told}
 use Rattle.wire.specs.Packed.{packed}
-use Rattle.wire.specs.Receivers.{receiverIn, isReceiver, holdsReceiver, eventsBy, eventsHeard}
-use Rattle.wire.specs.declared.receivers.ReceiverRead.{ReceiverRead}
-use Rattle.wire.specs.declared.receivers.ReceiverRead.the-variants.{Receiver as Is, Refused as NoReceiver}
-use Rattle.wire.proofs.HeardLaws.{heard-length}
+use Rattle.receiver.specs.Bytes.{holdsReceiver}
+use Rattle.receiver.proofs.RunLaws.{heard-length}
 use Rattle.radio.specs.Codes.{commandOf}
 use Rattle.radio.specs.Answers.{readCauses, messagesOf}
 use Rattle.radio.specs.declared.RadioCommand.{RadioCommand}
@@ -37,14 +35,14 @@ use Rattle.record.specs.Layout.{UNITS, RECORDS}
 use Rattle.record.specs.ModuleTable.{changed}
 use Rattle.room.specs.Rooms.{Room, roomLong, roomOk, changes, roomAfter, applyAnswer, levelsOf, tallied}
 use Rattle.room.specs.Routes.{roomAfterAll, roomCauses, radioAfter, radioAnswer}
-use Rattle.room.specs.Mains.{eventRoom, eventAnswer, answerBytes, roomHeard, answersHeard, Lending, mainsCauses, mainsAfter, lentAfter}
+use Rattle.room.specs.Mains.{roomGiven, answerGiven, answerBytes, roomHeard, answersHeard, Lending, heard, mainsAfter}
 use Rattle.room.specs.declared.RoomAnswer.{RoomAnswer}
 use Rattle.room.specs.declared.RoomAnswer.the-variants.{Done, Refused}
 use Rattle.room.proofs.TableLaws.{changed-none}
 use Rattle.room.proofs.HouseLaws.{whole}
 use Rattle.room.proofs.ApplyLaws.{Outcome, stays, did, outcome, valid-stays, count-is}
 use Rattle.room.proofs.Levels.{address-levels, levels-count}
-use Rattle.room_laws.specs.Demand2.{Route, radio, mains, meantBy, carries, lending, radioLeaves, leaves, radioCounts, numberIn, countsIn, counts}
+use Rattle.room_laws.specs.Demand2.{Route, radio, mains, meantBy, carries, radioLeaves, leaves, radioCounts, numberIn, countsIn, counts}
 use Rattle.room_laws.specs.Demand2.{Demand2, NoMoreThanMessages}
 use Rattle.room_laws.proofs.Theorems.{count-at-most-16}
 
@@ -165,12 +163,11 @@ radio-refused (code ∷ codes) room broken =
 pub heard-all : (es : List Event) (room : Room) → roomHeard es room ≡ roomAfterAll (told es) room
 unfolding roomHeard told roomAfterAll
 heard-all [] room = refl
-heard-all (Nothing ∷ es) room = heard-all es room
-heard-all (Gives m ∷ es) room = heard-all es (roomAfter m room)
-heard-all (Repeat ∷ es) room = heard-all es room
-heard-all (BrokenPair ∷ es) room = heard-all es room
-heard-all (BrokenUnsupported ∷ es) room = heard-all es room
-heard-all (Stays why ∷ es) room = heard-all es room
+heard-all (e ∷ es) room = go (givenBy e) (heard-all es)
+  where
+    go : (g : Given) → ((q : Room) → roomHeard es q ≡ roomAfterAll (told es) q) → roomHeard es (roomGiven g room) ≡ roomAfterAll (asList g ++ told es) room
+    go No later = later room
+    go (Yes m) later = later (roomAfter m room)
 
 -- the count in an answer's eight bytes
 small-number : (why : Refusal) → refusalNumber why ≤ 15
@@ -210,7 +207,7 @@ counted-back n k few small =
     let low : n % 2 ^ 56 ≡ n = omega arith in
     rw (low, number-back (n * 256 + k) (omega arith)) (omega arith)
 
-answer-counts : (m : Message) (room : Room) → numberIn (answerBytes (eventAnswer (Gives m) room)) / 2 ^ 8 ≡ levelsOf (applyAnswer m room)
+answer-counts : (m : Message) (room : Room) → numberIn (answerBytes (answerGiven (Yes m) room)) / 2 ^ 8 ≡ levelsOf (applyAnswer m room)
 answer-counts m room = go (applyAnswer m room) (count-at-most-16 m room)
   where
     go : (a : RoomAnswer) → levelsOf a ≤ UNITS → numberIn (answerBytes (packed (tallied a))) / 2 ^ 8 ≡ levelsOf a
@@ -221,91 +218,54 @@ answer-counts m room = go (applyAnswer m room) (count-at-most-16 m room)
 counts-heard : (es : List Event) (room : Room) (rest : List ℕ) → countsIn (length es) (answersHeard es room ++ rest) ≡ countAll (told es) room
 unfolding countsIn answersHeard told countAll
 counts-heard [] room rest = refl
-counts-heard (Nothing ∷ es) room rest = zero-add _ ∙ counts-heard es room rest
-counts-heard (Gives m ∷ es) room rest = ap₂ _+_ (answer-counts m room) (counts-heard es (roomAfter m room) rest)
-counts-heard (Repeat ∷ es) room rest = zero-add _ ∙ counts-heard es room rest
-counts-heard (BrokenPair ∷ es) room rest = zero-add _ ∙ counts-heard es room rest
-counts-heard (BrokenUnsupported ∷ es) room rest = zero-add _ ∙ counts-heard es room rest
-counts-heard (Stays why ∷ es) room rest = zero-add _ ∙ counts-heard es room rest
-
--- zeros count nothing
-counts-none : (n : ℕ) (l : List ℕ) → ((i : ℕ) → getD l i 0 ≡ 0) → countsIn n l ≡ 0
-unfolding countsIn
-counts-none zero l none = refl
-counts-none (suc n) l none =
-    rw (
-      none 0,
-      none 1,
-      none 2,
-      none 3,
-      none 4,
-      none 5,
-      none 6,
-      none 7,
-      counts-none n (drop 8 l) (λ i. getD-drop 8 l i 0 ∙ none (8 + i)),
-    )
-
-zeros-none : (k i : ℕ) → getD {A = ℕ} (replicate k 0) i 0 ≡ 0
-zeros-none zero i = refl
-zeros-none (suc k) zero = refl
-zeros-none (suc k) (suc i) = zeros-none k i
+counts-heard (e ∷ es) room rest = go (givenBy e) (λ q. counts-heard es q rest)
+  where
+    go : (g : Given) → ((q : Room) → countsIn (length es) (answersHeard es q ++ rest) ≡ countAll (told es) q)
+        → numberIn (answerBytes (answerGiven g room)) / 2 ^ 8 + countsIn (length es) (answersHeard es (roomGiven g room) ++ rest) ≡ countAll
+        (asList g ++ told es) room
+    go No later = zero-add _ ∙ later room
+    go (Yes m) later = ap₂ _+_ (answer-counts m room) (later (roomAfter m room))
 
 -- ---- a call on the mains
 
--- bytes that hold no receiver hear nothing
-unheard : (state halves : List ℕ) → holdsReceiver state ≡ false → eventsHeard state halves ≡ []
-unfolding eventsHeard
-unheard state halves e = go (receiverIn state) e
-  where
-    go : (x : ReceiverRead) → isReceiver x ≡ false → eventsBy x halves ≡ []
-    go (Is r) q = absurd (true≢false q)
-    go (NoReceiver why) q = refl
-
-module _ (state halves : List ℕ) (room : Room) where
-  abbrev l : Lending
-  l = lending state halves
-
-  -- nothing is left or counted of a call that is refused
-  abbrev Nothing-done : Type 0
-  Nothing-done = (mainsAfter l room ≡ room) × (countsIn (length halves) (lentAfter l room .answers) ≡ 0)
-
-  fits : (n : ℕ) → leb n (length {A = ℕ} (replicate n 0)) ≡ true
-  fits n = le-leb n (length {A = ℕ} (replicate n 0)) (omega (arith, length-replicate {A = ℕ} n 0))
-
-  no-count : countsIn (length halves) (replicate (8 * length halves) 0) ≡ 0
-  no-count = counts-none (length halves) _ (zeros-none (8 * length halves))
-
-  mains-refused : roomOk room ≡ false → Nothing-done
-  unfolding mainsAfter lentAfter judged
+module _ (l : Lending) (room : Room) where
+  mains-refused : roomOk room ≡ false → (leaves (mains l) room ≡ room) × (counts (mains l) room ≡ 0)
+  unfolding mainsAfter judged
   mains-refused broken = go (roomLong room) refl
     where
-      go : (b : Bool) → roomLong room ≡ b → Nothing-done
-      go true e = rw (e, broken) (refl, no-count)
-      go false e = rw e (refl, no-count)
+      go : (b : Bool) → roomLong room ≡ b → (leaves (mains l) room ≡ room) × (counts (mains l) room ≡ 0)
+      go true e = rw (e, broken) (refl, refl)
+      go false e = rw e (refl, refl)
 
-  mains-carried : roomOk room ≡ true
-      → As (told (eventsHeard state halves)) room (mainsAfter l room) (countsIn (length halves) (lentAfter l room .answers))
-  unfolding mainsAfter lentAfter judged told roomAfterAll countAll
-  mains-carried ok = go (holdsReceiver state) refl
+  mains-carried : roomOk room ≡ true → As (carries (mains l)) room (leaves (mains l) room) (counts (mains l) room)
+  unfolding mainsAfter judged told roomAfterAll countAll
+  mains-carried ok =
+      let n = length (l .halves) in
+      go (holdsReceiver (l .state)) refl (leb (8 * n) (length (l .answers))) refl (leb (6 * n) (length (l .events))) refl
     where
-      go : (b : Bool) → holdsReceiver state ≡ b
-          → As (told (eventsHeard state halves)) room (mainsAfter l room) (countsIn (length halves) (lentAfter l room .answers))
-      go true holds =
-          let es = eventsHeard state halves in
-          let rest = drop (8 * length halves) (l .answers) in
-          rw (long room ok, ok, holds, fits (8 * length halves), fits (6 * length halves))
-          (heard-all es room, ap (λ (n : ℕ). countsIn n (answersHeard es room ++ rest)) (sym (heard-length state halves holds)) ∙ counts-heard es room rest)
-      go false holds = rw (long room ok, ok, holds, unheard state halves holds) (refl, no-count)
+      go : (a : Bool) → holdsReceiver (l .state) ≡ a → (b : Bool) → leb (8 * length (l .halves)) (length (l .answers)) ≡ b
+          → (c : Bool) → leb (6 * length (l .halves)) (length (l .events)) ≡ c → As (carries (mains l)) room (leaves (mains l) room) (counts (mains l) room)
+      go true holds true wide true fits =
+          let es = heard l in
+          let rest = drop (8 * length (l .halves)) (l .answers) in
+          rw (long room ok, ok, holds, wide, fits) (
+            heard-all es room,
+            ap (λ (n : ℕ). countsIn n (answersHeard es room ++ rest)) (sym (heard-length (l .state) (l .halves) holds))
+                ∙ counts-heard es room rest,
+          )
+      go true holds true wide false short = rw (long room ok, ok, holds, wide, short) (refl, refl)
+      go true holds false short c fits = rw (long room ok, ok, holds, short) (refl, refl)
+      go false none b wide c fits = rw (long room ok, ok, none) (refl, refl)
 
 -- ---- a route
 
 route-refused : (a : Route) (room : Room) → roomOk room ≡ false → (leaves a room ≡ room) × (counts a room ≡ 0)
 route-refused (radio codes) room broken = radio-refused codes room broken
-route-refused (mains state halves) room broken = mains-refused state halves room broken
+route-refused (mains l) room broken = mains-refused l room broken
 
 route-carried : (a : Route) (room : Room) → roomOk room ≡ true → As (carries a) room (leaves a room) (counts a room)
 route-carried (radio codes) room ok = radio-carried codes room ok
-route-carried (mains state halves) room ok = mains-carried state halves room ok
+route-carried (mains l) room ok = mains-carried l room ok
 
 pub carried : (a : Route) (room : Room) → (leaves a room ≡ roomAfterAll (carries a) room) × (counts a room ≡ countAll (carries a) room)
 carried a room = go (roomOk room) refl

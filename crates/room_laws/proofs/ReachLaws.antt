@@ -20,7 +20,7 @@ use Rattle.plan.specs.declared.Act.the-variants.{Nothing, Address, Obey, Join, 
 use Rattle.plan.specs.declared.Act.the-variants.{GroupDim, GroupBright}
 use Rattle.record.specs.declared.Record.{Record}
 use Rattle.record.specs.declared.House.{House}
-use Rattle.record.specs.Layout.{RECORD-BYTES, UNITS, HOUSES, RECORDS, TABLE-BYTES, recordAt, bytesOf, present, lamp, member, preset, withAddressed}
+use Rattle.record.specs.Layout.{RECORD-BYTES, UNITS, HOUSES, RECORDS, TABLE-BYTES, recordAt, recordBytes, present, lamp, member, preset, withAddressed}
 use Rattle.record.specs.ModuleTable.{relevel, lit, dimmed, brightened, addressed, obeyed, levelFor, joined, left, acted, stepRecord, stepHouse, changed}
 use Rattle.room.proofs.TableLaws.{changed-none, changed-put, length-step, step-other}
 use Rattle.room.proofs.StillLaws.{unlevelled, unchosen}

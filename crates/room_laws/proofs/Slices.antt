@@ -12,12 +12,14 @@ use lib.Dec.{leb}
 use lib.ListN.{length, take, drop, take-append-drop, length-append, length-take, length-drop}
 use lib.Seq.{drop-drop}
 use Rattle.ground.specs.Refusals.{judged}
+use Rattle.ground.proofs.Lists.{flat-append}
 use Rattle.receiver.specs.declared.Event.{Event}
 use Rattle.receiver_laws.specs.Inversion.{told}
-use Rattle.wire.specs.Receivers.{holdsReceiver, eventBytes, eventsHeard, bytesAfter}
-use Rattle.wire.proofs.ReadBack.{stays-receiver, two-parts}
+use Rattle.receiver.specs.Bytes.{holdsReceiver, eventBytes, eventsHeard, bytesAfter}
+use Rattle.receiver.proofs.ReadBack.{stays-receiver, two-parts}
 use Rattle.room.specs.Rooms.{Room, roomLong, roomOk}
-use Rattle.room.specs.Mains.{eventRoom, eventAnswer, answerBytes, roomHeard, answersHeard, mainsAfter, lentAfter}
+use Rattle.room.specs.Mains.{roomHeard, answersHeard, mainsAnswer, mainsAfter, lentAfter}
+use Rattle.room.proofs.MainsLaws.{room-append, answers-append}
 use Rattle.room_laws.specs.Slices.{Lent, called, inParts, Fits, TwoCalls, singly, OneByOne}
 use Rattle.room_laws.proofs.Carried.{long, heard-all, all-stay}
 
@@ -33,30 +35,12 @@ put-parts : (a b : ℕ) (p q l : List ℕ) → (p ++ drop a (take a l)) ++ (q ++
 put-parts a b p q l =
     rw (drop-taken a l, append-nil p, drop-drop b a l) (sym (append-assoc p q (drop (a + b) l)))
 
-bytes-append : (es fs : List Event) → flatMap eventBytes (es ++ fs) ≡ flatMap eventBytes es ++ flatMap eventBytes fs
-unfolding flatMap
-bytes-append [] fs = refl
-bytes-append (e ∷ es) fs =
-    ap (λ (x : List ℕ). eventBytes e ++ x) (bytes-append es fs) ∙ sym (append-assoc (eventBytes e) (flatMap eventBytes es) (flatMap eventBytes fs))
-
-room-append : (es fs : List Event) (room : Room) → roomHeard (es ++ fs) room ≡ roomHeard fs (roomHeard es room)
-unfolding roomHeard
-room-append [] fs room = refl
-room-append (e ∷ es) fs room = room-append es fs (eventRoom e room)
-
-answers-append : (es fs : List Event) (room : Room) → answersHeard (es ++ fs) room ≡ answersHeard es room ++ answersHeard fs (roomHeard es room)
-unfolding answersHeard roomHeard
-answers-append [] fs room = refl
-answers-append (e ∷ es) fs room =
-    let bytes = answerBytes (eventAnswer e room) in
-    let next = eventRoom e room in
-    ap (λ (x : List ℕ). bytes ++ x) (answers-append es fs next) ∙ sym (append-assoc bytes (answersHeard es next) (answersHeard fs (roomHeard es next)))
-
 -- ---- one call
 
 -- what a call that is not refused leaves
 abbrev done : List ℕ → Lent → Lent
 done hs l = record {
+  number = 0;
   room = roomHeard (eventsHeard (l .state) hs) (l .room);
   state = bytesAfter (l .state) hs;
   events = flatMap eventBytes (eventsHeard (l .state) hs) ++ drop (6 * length hs) (l .events);
@@ -64,7 +48,7 @@ done hs l = record {
 }
 
 called-done : (hs : List ℕ) (l : Lent) → roomOk (l .room) ≡ true → holdsReceiver (l .state) ≡ true → Fits (length hs) l → called hs l ≡ done hs l
-unfolding called mainsAfter lentAfter judged
+unfolding called mainsAnswer mainsAfter lentAfter judged
 called-done hs l ok holds fits =
     let n = length hs in
     rw (long (l .room) ok, ok, holds, le-leb (8 * n) (length (l .answers)) (fits .1), le-leb (6 * n) (length (l .events)) (fits .0))
@@ -75,8 +59,17 @@ data Bad (room : Room) (state : List ℕ) : Type 0 where
   rule : roomLong room ≡ true → roomOk room ≡ false → Bad room state
   receiver : roomOk room ≡ true → holdsReceiver state ≡ false → Bad room state
 
-called-bad : (hs : List ℕ) (l : Lent) → Bad (l .room) (l .state) → called hs l ≡ l
-unfolding called mainsAfter lentAfter judged
+-- all as it was, and the number of the refusal
+abbrev given : ℕ → Lent → Lent
+given n l = record { number = n; room = l .room; state = l .state; events = l .events; answers = l .answers }
+
+abbrev badNumber : {room : Room} {state : List ℕ} → Bad room state → ℕ
+badNumber (table e) = 1
+badNumber (rule e f) = 3
+badNumber (receiver e f) = 6
+
+called-bad : (hs : List ℕ) (l : Lent) (bad : Bad (l .room) (l .state)) → called hs l ≡ given (badNumber bad) l
+unfolding called mainsAnswer mainsAfter lentAfter judged
 called-bad hs l (table e) = rw e
 called-bad hs l (rule e f) = rw (e, f)
 called-bad hs l (receiver ok none) = rw (long (l .room) ok, ok, none)
@@ -92,20 +85,21 @@ module _ (xs ys : List ℕ) (l : Lent) (fits : Fits (length (xs ++ ys)) l) where
 
   -- what is lent to the first, and to the second
   abbrev first : Lent
-  first = record { room = l .room; state = l .state; events = take e (l .events); answers = take a (l .answers) }
+  first = record { number = l .number; room = l .room; state = l .state; events = take e (l .events); answers = take a (l .answers) }
 
   abbrev second : Lent → Lent
-  second one = record { room = one .room; state = one .state; events = drop e (l .events); answers = drop a (l .answers) }
+  second one = record { number = one .number; room = one .room; state = one .state; events = drop e (l .events); answers = drop a (l .answers) }
 
   abbrev joined : Lent → Lent → Lent
-  joined one two = record { room = two .room; state = two .state; events = one .events ++ two .events; answers = one .answers ++ two .answers }
+  joined one two =
+      record { number = two .number; room = two .room; state = two .state; events = one .events ++ two .events; answers = one .answers ++ two .answers }
 
   bad-parts : Bad (l .room) (l .state) → called (xs ++ ys) l ≡ joined (called xs first) (called ys (second (called xs first)))
   bad-parts bad =
       called-bad (xs ++ ys) l bad
       ∙ sym (
       ap (λ (one : Lent). joined one (called ys (second one))) (called-bad xs first bad)
-      ∙ ap (joined first) (called-bad ys (second first) bad)
+      ∙ ap (joined (given (badNumber bad) first)) (called-bad ys (second (given (badNumber bad) first)) bad)
       ∙ rw (take-append-drop e (l .events), take-append-drop a (l .answers))
       )
 
@@ -128,7 +122,7 @@ module _ (xs ys : List ℕ) (l : Lent) (fits : Fits (length (xs ++ ys)) l) where
       let places : 6 * length (xs ++ ys) ≡ e + 6 * length ys = omega arith in
       let answer-places : 8 * length (xs ++ ys) ≡ a + 8 * length ys = omega arith in
       let events : flatMap eventBytes (eventsHeard s (xs ++ ys)) ++ drop (6 * length (xs ++ ys)) (l .events) ≡ joined (done xs first) (done ys two) .events =
-      rw (heard, places, bytes-append es fs) (sym (put-parts e (6 * length ys) (flatMap eventBytes es) (flatMap eventBytes fs) (l .events))) in
+      rw (heard, places, flat-append eventBytes es fs) (sym (put-parts e (6 * length ys) (flatMap eventBytes es) (flatMap eventBytes fs) (l .events))) in
       let answers : answersHeard (eventsHeard s (xs ++ ys)) (l .room) ++ drop (8 * length (xs ++ ys)) (l .answers)
       ≡ joined (done xs first) (done ys two) .answers =
       rw (heard, answer-places, answers-append es fs (l .room))

@@ -20,7 +20,7 @@ use Rattle.plan.specs.declared.Plan.{Plan}
 use Rattle.plan.specs.declared.Plan.the-variants.{Run, Refused}
 use Rattle.record.specs.declared.Record.{Record}
 use Rattle.record.specs.declared.House.{House}
-use Rattle.record.specs.Layout.{RECORD-BYTES, UNITS, RECORDS, HEARD-AT, recordAt, bytesOf, houseAt, present}
+use Rattle.record.specs.Layout.{RECORD-BYTES, UNITS, RECORDS, HEARD-AT, recordAt, recordBytes, houseAt, present}
 use Rattle.record.specs.ModuleTable.{joined, left, acted, stepRecord, houseAfter, stepHouse, runAct, changed}
 use Rattle.room.specs.Rooms.{Room, roomAfter, applyAnswer, roomReport, levelsOf}
 use Rattle.room.proofs.TableLaws.{byte-of-record, changed-ext, record-put-house}
@@ -76,7 +76,7 @@ others-stay m room i k below small out = go (outcome m room)
         let t = room .modules in
         let kept : recordAt (roomAfter m room .modules) i ≡ recordAt t i =
         rw (r .left) (run-record a h t i below (whole t (r .ok) .size) ∙ same a r (eqb (i / UNITS) h) out) in
-        byte-of-record (roomAfter m room .modules) i k small ∙ ap (λ x. getD (bytesOf x) k 0) kept ∙ sym (byte-of-record t i k small)
+        byte-of-record (roomAfter m room .modules) i k small ∙ ap (λ x. getD (recordBytes x) k 0) kept ∙ sym (byte-of-record t i k small)
 
 -- ---- record by record
 

@@ -11,21 +11,22 @@ use Rattle.burst.specs.Frames.{burstOf}
 use Rattle.receiver.specs.Receivers.{freshReceiver}
 use Rattle.receiver_laws.specs.Whole.{clear}
 use Rattle.receiver_laws.specs.Inversion.{told}
-use Rattle.wire.specs.Receivers.{receiverBytes, eventsHeard}
+use Rattle.receiver.specs.Bytes.{receiverBytes}
 use Rattle.radio.specs.Codes.{fourBytes, commandOk, commandOf}
 use Rattle.radio.specs.Answers.{readCauses, messagesOf}
 use Rattle.radio.specs.declared.RadioCommand.{RadioCommand}
 use Rattle.room.specs.Rooms.{Room, levelsOf}
 use Rattle.room.specs.Routes.{roomAfterAll, radioAfter, radioAnswer}
-use Rattle.room.specs.Mains.{Lending, lentTo, mainsAfter, lentAfter}
+use Rattle.room.specs.Mains.{Lending, lentTo, heard, lentCauses, mainsCauses, mainsAfter, mainsLent}
 
 -- ---- a route: what comes in
 
 pub data Route : Type 0 where
   -- by radio, codes, a call each
   radio : List (List ℕ) → Route
-  -- on the mains, half-cycles in one call, for the receiver that lent bytes hold; Slices.antt says that more calls make no difference
-  mains : List ℕ → List ℕ → Route
+  -- on the mains, half-cycles in one call, with whatever is lent beside the table: the bytes of a receiver and both buffers; Slices.antt says
+  -- that more calls make no difference
+  mains : Lending → Route
 
 -- the messages that a code means: those of the command that it names, and none where the reader refuses it
 unfoldable pub meantBy : List ℕ → List Message
@@ -34,13 +35,9 @@ meantBy code = judged (readCauses code) (messagesOf (commandOf code)) (λ why. [
 -- the messages that a route carries: those that its codes mean, or those that its receiver gives; what is refused carries none
 abbrev pub carries : Route → List Message
 carries (radio codes) = flatMap meantBy codes
-carries (mains state halves) = told (eventsHeard state halves)
+carries (mains l) = judged (lentCauses l) (told (heard l)) (λ why. [])
 
 -- ---- what it leaves
-
--- what is lent to a call on the mains beside the table: the receiver's bytes, and room for the events and the answers
-abbrev pub lending : List ℕ → List ℕ → Lending
-lending state halves = lentTo state halves (replicate (6 * length halves) 0) (replicate (8 * length halves) 0)
 
 -- the room that is left, each call having the room that the call before it left
 unfoldable pub radioLeaves : List (List ℕ) → Room → Room
@@ -49,7 +46,7 @@ radioLeaves (code ∷ codes) room = radioLeaves codes (radioAfter code room)
 
 abbrev pub leaves : Route → Room → Room
 leaves (radio codes) room = radioLeaves codes room
-leaves (mains state halves) room = mainsAfter (lending state halves) room
+leaves (mains l) room = mainsAfter l room
 
 -- ---- what it counts
 
@@ -59,7 +56,7 @@ radioCounts [] room = 0
 radioCounts (code ∷ codes) room = levelsOf (radioAnswer code room) + radioCounts codes (radioAfter code room)
 
 -- on the mains, the counts of the answers that are left beside the events, added up: eight bytes each, the lowest first, the count above
--- the lowest eight bits
+-- the lowest eight bits; a call that is refused counts 0
 abbrev pub numberIn : List ℕ → ℕ
 numberIn b =
     getD b 0 0 + getD b 1 0 * 2 ^ 8 + getD b 2 0 * 2 ^ 16 + getD b 3 0 * 2 ^ 24
@@ -71,7 +68,7 @@ countsIn (suc n) answers = numberIn answers / 2 ^ 8 + countsIn n (drop 8 answers
 
 abbrev pub counts : Route → Room → ℕ
 counts (radio codes) room = radioCounts codes room
-counts (mains state halves) room = countsIn (length halves) (lentAfter (lending state halves) room .answers)
+counts (mains l) room = judged (mainsCauses l room) (countsIn (length (l .halves)) (mainsLent l room .answers)) (λ why. 0)
 
 -- ---- the demand
 
@@ -80,7 +77,7 @@ pub record Alike (a b : Route) (room other : Room) : Type 0 where
   pub rooms : leaves a room ≡ leaves b other
   pub same-counts : counts a room ≡ counts b other
 
--- any two routes, and any rooms, refused ones too: proofs/Carried.antt
+-- any two routes, any receivers and buffers, and any rooms, refused ones too: proofs/Carried.antt
 abbrev pub Demand2 : Type 0
 Demand2 = (a b : Route) (room other : Room) → carries a ≡ carries b → room ≡ other → Alike a b room other
 
@@ -102,9 +99,12 @@ unfoldable pub onLine : List Sending → List ℕ
 onLine [] = []
 onLine (s ∷ more) = (clear (s .gap) ++ burstOf (s .message)) ++ onLine more
 
--- to a fresh receiver in its bytes
+-- to a fresh receiver in its bytes, with room for the events and the answers
+abbrev pub lending : List ℕ → List ℕ → Lending
+lending state halves = lentTo state halves (replicate (6 * length halves) 0) (replicate (8 * length halves) 0)
+
 abbrev pub toFresh : List Sending → Route
-toFresh line = mains (receiverBytes freshReceiver) (onLine line)
+toFresh line = mains (lending (receiverBytes freshReceiver) (onLine line))
 
 -- each "after three or more clear half-cycles"
 abbrev pub Spaced : List Sending → Type 0

@@ -1,14 +1,15 @@
--- The mains route over a slice of half-cycles is what single calls are, one after the other: the room, the receiver, the events and the
--- answers that are left.
+-- The mains route over a slice of half-cycles is what single calls are, one after the other: the number given back, the room, the receiver, the
+-- events and the answers that are left.
 use Prim.Native.Nat.{ℕ, _*_, _≤_}
 use mathlib.Core.Path.{_≡_}
 use mathlib.Core.List.{List, [], _∷_, _++_}
 use lib.ListN.{length, take, drop}
-use Rattle.room.specs.Rooms.{Room}
-use Rattle.room.specs.Mains.{Lending, lentTo, mainsAfter, lentAfter}
+use Rattle.room.specs.Rooms.{Room, roomReport}
+use Rattle.room.specs.Mains.{Lending, lentTo, mainsAnswer, mainsAfter, lentAfter}
 
--- all that is lent: the room, the receiver, and the two buffers
+-- all that is lent, the room, the receiver and the two buffers, beside the number that the last call gave back
 pub record Lent : Type 0 where
+  pub number : ℕ
   pub room : Room
   pub state : List ℕ
   pub events : List ℕ
@@ -19,15 +20,21 @@ unfoldable pub called : List ℕ → Lent → Lent
 called halves l =
     let lent = lentTo (l .state) halves (l .events) (l .answers) in
     let left = lentAfter lent (l .room) in
-    record { room = mainsAfter lent (l .room); state = left .state; events = left .events; answers = left .answers }
+    record {
+      number = roomReport (mainsAnswer lent (l .room)) .number;
+      room = mainsAfter lent (l .room);
+      state = left .state;
+      events = left .events;
+      answers = left .answers;
+    }
 
 -- a call on the first e bytes of the events and the first a of the answers; then another on the room and the receiver that it left, and on the
 -- rest of the buffers; what is left of the two lies one after the other
 unfoldable pub inParts : ℕ → ℕ → (Lent → Lent) → (Lent → Lent) → Lent → Lent
 inParts e a first second l =
-    let one = first (record { room = l .room; state = l .state; events = take e (l .events); answers = take a (l .answers) }) in
-    let two = second (record { room = one .room; state = one .state; events = drop e (l .events); answers = drop a (l .answers) }) in
-    record { room = two .room; state = two .state; events = one .events ++ two .events; answers = one .answers ++ two .answers }
+    let one = first (record { number = l .number; room = l .room; state = l .state; events = take e (l .events); answers = take a (l .answers) }) in
+    let two = second (record { number = one .number; room = one .room; state = one .state; events = drop e (l .events); answers = drop a (l .answers) }) in
+    record { number = two .number; room = two .room; state = two .state; events = one .events ++ two .events; answers = one .answers ++ two .answers }
 
 -- the buffers have room for so many half-cycles
 abbrev pub Fits : ℕ → Lent → Type 0

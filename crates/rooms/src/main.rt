@@ -146,7 +146,7 @@ fn radio_on(before: [u8; TABLE_BYTES], unit: u8) -> [u8; TABLE_BYTES] {
 // Lamp A1 is called and switched on, and then lamp A3: by bursts, a receiver and the mains route, and by radio bytes and the radio route.
 fn both_buttons() {
     let mut state = [0u8; 11];
-    wire::receivers::fresh(&mut state);
+    receiver::lent::fresh(&mut state);
     text(b"Reading, by the wall\n");
     let wall = wall_on(
         Listening {

@@ -3,9 +3,9 @@ use mathlib.Core.Path.{refl}
 use Rattle.ground.proofs.Causes.{lowest-given}
 use Rattle.station.specs.Stations.{loadCauses, sendCauses, turnCauses}
 use Rattle.station.specs.Benches.{benchCauses}
-use Rattle.station.specs.LowestNumbers.{LowestNumbers}
+use Rattle.station.specs.StationLowest.{StationLowest}
 
-pub lowest-numbers : LowestNumbers
+pub lowest-numbers : StationLowest
 lowest-numbers = record {
   load = λ s m draw. lowest-given (loadCauses s m draw) refl;
   sends = λ s. lowest-given (sendCauses s) refl;

@@ -1,3 +1,3 @@
 pub mod Stations
 pub mod Benches
-pub mod LowestNumbers
+pub mod StationLowest

@@ -22,9 +22,9 @@ use lib.ListN.{length, take, drop, getD, length-append, take-append-drop}
 use lib.Seq.{sets, take-suc, drop-cons}
 use Rattle.ground.specs.Choice.{pick}
 use Rattle.receiver.specs.Receivers.{stepOf}
-use Rattle.trace_lines.specs.Lines.{lineText, lineOf, Put, LAST}
+use Rattle.trace_lines.specs.Lines.{lineText, eventText, Put, LAST}
 use Rattle.trace_lines.specs.Trace.{isHalf, isSkipped, printed, halfAfter, byteAfter, traceFrom, progressAfter, Follows}
-use Rattle.trace_lines.specs.Trace.{takenFrom, pieceText, tracedOf, bufferAfter}
+use Rattle.trace_lines.specs.Trace.{takenFrom, pieceText, tracedOf, tracedBuffer}
 use Rattle.trace_lines.specs.declared.Line.the-variants.{BadByte}
 use Rattle.trace_lines.specs.declared.Progress.{Progress}
 use Rattle.trace_lines.specs.declared.Traced.{Traced}
@@ -39,7 +39,7 @@ picked-false : {A : Type 0} (t : Bool) (x y : A) → t ≡ false → pick t x y 
 picked-false t x y e = rw e
 
 module _ (p : Progress) (b : ℕ) (run : p .stopped ≡ false) where
-  pub half-taken : isHalf b ≡ true → (byteAfter p b ≡ halfAfter p (b - 48)) × (printed p b ≡ lineOf (p .number) (stepOf (p .receiver) (b - 48) .event))
+  pub half-taken : isHalf b ≡ true → (byteAfter p b ≡ halfAfter p (b - 48)) × (printed p b ≡ eventText (p .number) (stepOf (p .receiver) (b - 48) .event))
   unfolding byteAfter printed
   half-taken h = (picked-false (p .stopped) _ _ run ∙ picked-true (isHalf b) _ _ h, picked-false (p .stopped) _ _ run ∙ picked-true (isHalf b) _ _ h)
 
@@ -181,8 +181,8 @@ module _ {input out₀ : List ℕ} {p : Progress} {out : List ℕ} {q : Progress
 
   -- where no further byte is taken, that is the answer
   pub going-ends : {t : Traced} → t ≡ record { progress = q; taken = i; length = at } → takenFrom q at (drop i input) ≡ 0
-      → (t ≡ tracedOf p input) × (out ≡ bufferAfter p input out₀)
-  unfolding tracedOf bufferAfter pieceText
+      → (t ≡ tracedOf p input) × (out ≡ tracedBuffer p input out₀)
+  unfolding tracedOf tracedBuffer pieceText
   going-ends {t} e none =
       let all : i ≡ takenFrom p 0 input = omega (arith, g .count) in (
         e ∙ (λ j. record { progress = g .stands j; taken = i; length = g .place j })

@@ -65,13 +65,13 @@ unfoldable pub lineText : ℕ → Line → List ℕ
 lineText n line = digitsOf n ++ (fieldsOf line ++ (10 ∷ []))
 
 -- "One line an event"; NOTHING and a refusal have none
-abbrev pub lineOf : ℕ → Event → List ℕ
-lineOf n Nothing = []
-lineOf n (Gives m) = lineText n (Says m)
-lineOf n Repeat = lineText n Repeated
-lineOf n BrokenPair = lineText n Unequal
-lineOf n BrokenUnsupported = lineText n Unread
-lineOf n (Refused why) = []
+abbrev pub eventText : ℕ → Event → List ℕ
+eventText n Nothing = []
+eventText n (Gives m) = lineText n (Says m)
+eventText n Repeat = lineText n Repeated
+eventText n BrokenPair = lineText n Unequal
+eventText n BrokenUnsupported = lineText n Unread
+eventText n (Refused why) = []
 
 -- a text is put into a buffer at a place: the buffer then, and the place after it
 pub record Put (before : List ℕ) (at : ℕ) (text after : List ℕ) (next : ℕ) : Type 0 where

@@ -8,14 +8,14 @@ use lib.ListN.{length, take}
 use lib.Seq.{sets}
 use Rattle.ground.specs.Choice.{pick}
 use Rattle.receiver.specs.Receivers.{freshReceiver, stepOf}
-use Rattle.trace_lines.specs.Lines.{lineText, lineOf, LAST}
+use Rattle.trace_lines.specs.Lines.{lineText, eventText, LAST}
 use Rattle.trace_lines.specs.declared.Line.the-variants.{BadByte}
 use Rattle.trace_lines.specs.declared.Progress.{Progress}
 use Rattle.trace_lines.specs.declared.Traced.{Traced}
 
 -- before any byte: a fresh receiver, "half-cycles numbered from 1"
-abbrev pub atStart : Progress
-atStart = record { receiver = freshReceiver; number = 1; stopped = false }
+abbrev pub traceStart : Progress
+traceStart = record { receiver = freshReceiver; number = 1; stopped = false }
 
 -- the greatest number that a half-cycle has; the trace ends after it
 abbrev pub GREATEST : ℕ
@@ -33,7 +33,7 @@ isSkipped b = eqb b 10 || eqb b 13
 unfoldable pub printed : Progress → ℕ → List ℕ
 printed p b =
     pick (p .stopped) []
-    (pick (isHalf b) (lineOf (p .number) (stepOf (p .receiver) (b - 48) .event))
+    (pick (isHalf b) (eventText (p .number) (stepOf (p .receiver) (b - 48) .event))
     (pick (isSkipped b) [] (lineText (p .number) BadByte)))
 
 -- where the trace stands after a half-cycle
@@ -61,7 +61,7 @@ progressAfter p (b ∷ bs) = progressAfter (byteAfter p b) bs
 
 -- the whole trace of an input
 unfoldable pub traceOf : List ℕ → List ℕ
-traceOf input = traceFrom atStart input
+traceOf input = traceFrom traceStart input
 
 -- ---- one piece of the input, into one buffer
 
@@ -83,8 +83,8 @@ tracedOf p input =
       length = length (pieceText p input);
     }
 
-unfoldable pub bufferAfter : Progress → List ℕ → List ℕ → List ℕ
-bufferAfter p input out = sets out 0 (pieceText p input)
+unfoldable pub tracedBuffer : Progress → List ℕ → List ℕ → List ℕ
+tracedBuffer p input out = sets out 0 (pieceText p input)
 
 -- ---- the program
 

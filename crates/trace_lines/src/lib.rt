@@ -15,8 +15,9 @@ ghost use Rattle.ground.specs.Choice.{pick};
 ghost use Rattle.ground.specs.Text.{bytesOf};
 ghost use Rattle.message.specs.declared.Message.the-variants.{Address, Function as Command, Extended};
 ghost use Rattle.receiver.specs.Receivers.{stepOf};
-ghost use Rattle.trace_lines.specs.Lines.{trimmed, digitsOf, letterOf, hexDigit, hexOf, field, messageFields, fieldsOf, lineText, lineOf, roomFor, Put};
-ghost use Rattle.trace_lines.specs.Trace.{atStart, printed, halfAfter, byteAfter, tracedOf, bufferAfter};
+ghost use Rattle.trace_lines.specs.Lines.{trimmed, digitsOf, letterOf, hexDigit, hexOf, field, messageFields, fieldsOf, lineText};
+ghost use Rattle.trace_lines.specs.Lines.{eventText, roomFor, Put};
+ghost use Rattle.trace_lines.specs.Trace.{traceStart, printed, halfAfter, byteAfter, tracedOf, tracedBuffer};
 
 pub mod run;
 
@@ -266,7 +267,7 @@ fn put_line(out: &mut [u8; SIZE], at: usize, number: u64, line: Line) -> usize
 // Puts an event's line, if it has one, into the buffer at a place where a line may begin, and answers the place after it. At any
 // other place nothing is put.
 pub(crate) fn put_event(out: &mut [u8; SIZE], at: usize, number: u64, event: Event) -> usize
-    ensures { λ r. ⌜ Put (now (out .entry)) at (roomFor at (lineOf number event)) (now (out .exit)) r ⌝ }
+    ensures { λ r. ⌜ Put (now (out .entry)) at (roomFor at (eventText number event)) (now (out .exit)) r ⌝ }
 {
     if at > LAST {
         return at;
@@ -283,7 +284,7 @@ pub(crate) fn put_event(out: &mut [u8; SIZE], at: usize, number: u64, event: Eve
 
 // Where a trace stands before any byte.
 pub(crate) fn begin() -> Progress
-    ensures { λ p. ⌜ p ≡ atStart ⌝ }
+    ensures { λ p. ⌜ p ≡ traceStart ⌝ }
 {
     Progress {
         receiver: fresh(),
@@ -297,7 +298,7 @@ fn print_half(p: Progress, half: u8, out: &mut [u8; SIZE], at: usize) -> Printed
     requires { ⌜ at ≤ 65472 ⌝ }
     ensures { λ o.
         ⌜ (o .progress ≡ halfAfter p half)
-        × Put (now (out .entry)) at (lineOf (p .number) (stepOf (p .receiver) half .event)) (now (out .exit)) (o .at) ⌝ }
+        × Put (now (out .entry)) at (eventText (p .number) (stepOf (p .receiver) half .event)) (now (out .exit)) (o .at) ⌝ }
 {
     let r = p.receiver;
     let heard = step(r, half);
@@ -364,7 +365,7 @@ fn ended(p: Progress, taken: usize, length: usize) -> Traced
 // no room for a further line; the rest of the piece is then to be handed in again.
 pub(crate) fn trace(p: Progress, input: &[u8], out: &mut [u8; SIZE]) -> Traced
     ensures { λ t. ⌜ t ≡ tracedOf p (now (input .entry)) ⌝ }
-    ensures { λ t. ⌜ now (out .exit) ≡ bufferAfter p (now (input .entry)) (now (out .entry)) ⌝ }
+    ensures { λ t. ⌜ now (out .exit) ≡ tracedBuffer p (now (input .entry)) (now (out .entry)) ⌝ }
 {
     if p.stopped {
         return ended(p, 0, 0);

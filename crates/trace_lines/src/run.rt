@@ -6,7 +6,7 @@ use crate::trace;
 use libc::STDIN_FILENO;
 use libc::STDOUT_FILENO;
 ghost use mathlib.Core.Path.{_≡_};
-ghost use Rattle.trace_lines.specs.Trace.{atStart, progressAfter, Follows};
+ghost use Rattle.trace_lines.specs.Trace.{traceStart, progressAfter, Follows};
 
 // Where the trace stands after a piece, and whether there may be more to do: all lines were written and the input goes on.
 pub struct Piece {
@@ -67,7 +67,7 @@ fn read_piece(p: Progress, input: &mut [u8], out: &mut [u8; SIZE]) -> Piece
 // Answers where the trace then stands. A proved loop has to end, and nothing says that an input does: the loop counts its turns
 // down, from a number that no run uses up.
 pub fn run() -> Progress
-    ensures { λ p. ⌜ Follows atStart p ⌝ }
+    ensures { λ p. ⌜ Follows traceStart p ⌝ }
 {
     let mut input = [0u8; SIZE];
     let mut out = [0u8; SIZE];

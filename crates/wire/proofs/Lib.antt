@@ -1,4 +1,1 @@
 pub mod MessageLaws
-pub mod ReadBack
-pub mod RunLaws
-pub mod HeardLaws

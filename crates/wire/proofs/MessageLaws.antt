@@ -1,26 +1,27 @@
 -- Laws of messages as five numbers and five bytes.
 --
---     message-number        when reading refuses: its number is that of its causes
+--     message-number        when reading refuses, it is by 2
 --     messages-read-back    MessagesReadBack
-use mathlib.Core.Path.{_≡_, refl, sym, ap, ap₂, _∙_}
-use mathlib.Core.Bool.{Bool, true, false, false≢true, _&&_, _||_, and-eq-true-iff}
-use mathlib.Core.List.{List, [], _∷_}
+use mathlib.Core.Path.{_≡_, refl, sym, ap, _∙_}
+use mathlib.Core.Bool.{Bool, true, false, _&&_, and-eq-true-iff}
+use mathlib.Core.List.{[], _∷_}
 use Prim.Native.Nat.{ℕ}
 use native.Mathlib.Decide.{ℕ-discrete}
 use native.Mathlib.Omega.{arith}
 use borrow.Author.Tests.{eqb-true, eq-eqb, ne-eqb}
-use lib.Dec.{eqb, leb}
+use lib.Dec.{eqb}
 use Rattle.ground.specs.Choice.{pick}
 use Rattle.ground.specs.Refusals.{judged, numberGiven}
 use Rattle.ground.specs.declared.Refusal.the-variants as refusal
-use Rattle.message.specs.Codes.{functionCode, functionAnswer}
+use Rattle.message.specs.Codes.{functionAnswer}
 use Rattle.message.specs.Messages.{messageOk}
 use Rattle.message.specs.declared.codes.FunctionRead.{FunctionRead}
 use Rattle.message.specs.declared.codes.FunctionRead.the-variants.{Function as Is, Refused as NoFunction}
 use Rattle.message.specs.declared.Message.{Message}
 use Rattle.message.specs.declared.Message.the-variants.{Address, Function as Command, Extended}
 use Rattle.message.proofs.CodeLaws.{codes-read-back}
-use Rattle.wire.specs.Messages.{takenMessage, isFunction, functionFrom, messageFrom, messageCauses, messageReport, messageIn, messageBytes, asWritten, MessagesReadBack}
+use Rattle.wire.specs.Messages.{takenMessage, functionFrom, messageFrom, messageIn, messageBytes}
+use Rattle.wire.specs.Messages.{asWritten, MessagesReadBack, messageReport, saysMessage, messageCauses}
 use Rattle.wire.specs.declared.MessageRead.{MessageRead}
 use Rattle.wire.specs.declared.MessageRead.the-variants.{Message as Says, Refused}
 
@@ -42,38 +43,35 @@ kind-of k h t d c = go (ℕ-discrete k 1) (ℕ-discrete k 2) (ℕ-discrete k 3)
     go (no n) (no m) (yes e) = rw (ne-eqb k 1 n, ne-eqb k 2 m, eq-eqb k 3 e) (extended e)
     go (no n) (no m) (no l) = rw (ne-eqb k 1 n, ne-eqb k 2 m, ne-eqb k 3 l) (other n m l)
 
--- ---- the number
-
--- that of a house and a unit
-pair-number : (a b : Bool) (m : Message) → messageReport (pick (a && b) (Says m) (Refused refusal.Message)) .number ≡ pick a (pick b 0 2) 2
-pair-number true true m = refl
-pair-number true false m = refl
-pair-number false true m = refl
-pair-number false false m = refl
-
--- that of a function
-function-number : (h : ℕ) (x : FunctionRead) → messageReport (functionFrom h x) .number ≡ pick (isFunction x) (pick (leb h 15) 0 2) 2
-unfolding takenMessage judged
-function-number h (Is f) = go (leb h 15)
-  where
-    go : (a : Bool) → messageReport (pick a (Says (Command h f)) (Refused refusal.Message)) .number ≡ pick a 0 2
-    go true = refl
-    go false = refl
-function-number h (NoFunction why) = refl
-
-pub message-number : (k h t d c : ℕ) → messageReport (messageFrom k h t d c) .number ≡ numberGiven (messageCauses k h t)
-unfolding takenMessage judged
-message-number k h t d c = go (kind-of k h t d c)
-  where
-    go : {o : MessageRead} → Kind k h t d c o → messageReport o .number ≡ numberGiven (messageCauses k h t)
-    go (address e) = rw (eq-eqb k 1 e, ne-eqb k 2 (λ z. omega arith)) (pair-number (leb h 15) (leb t 15) (Address h t))
-    go (function e) = rw (ne-eqb k 1 (λ z. omega arith), ne-eqb k 3 (λ z. omega arith), eq-eqb k 2 e) (function-number h (functionAnswer t))
-    go (extended e) = rw (ne-eqb k 1 (λ z. omega arith), ne-eqb k 2 (λ z. omega arith), eq-eqb k 3 e) (pair-number (leb h 15) (leb t 15) (Extended h t d c))
-    go (other n m l) = rw (ne-eqb k 1 n, ne-eqb k 2 m, ne-eqb k 3 l)
-
 -- ---- read back
 
 -- a message that is taken is valid, and the one handed in
+-- by which number it is refused
+abbrev numbered : MessageRead → Type 0
+numbered x = messageReport x .number ≡ pick (saysMessage x) 0 2
+
+taken-number : (m : Message) → numbered (takenMessage m)
+unfolding takenMessage judged
+taken-number m = go (messageOk m)
+  where
+    go : (b : Bool) → numbered (pick b (Says m) (Refused refusal.Message))
+    go true = refl
+    go false = refl
+
+function-number : (h : ℕ) (x : FunctionRead) → numbered (functionFrom h x)
+function-number h (Is f) = taken-number (Command h f)
+function-number h (NoFunction why) = refl
+
+pub message-number : (k h t d c : ℕ) → messageReport (messageFrom k h t d c) .number ≡ numberGiven (messageCauses k h t d c)
+unfolding judged
+message-number k h t d c = go (kind-of k h t d c)
+  where
+    go : {x : MessageRead} → Kind k h t d c x → numbered x
+    go (address e) = taken-number (Address h t)
+    go (function e) = function-number h (functionAnswer t)
+    go (extended e) = taken-number (Extended h t d c)
+    go (other a b e) = refl
+
 taken-back : (m g : Message) → takenMessage m ≡ Says g → (m ≡ g) × (messageOk m ≡ true)
 unfolding takenMessage judged
 taken-back m g e = go (messageOk m) e

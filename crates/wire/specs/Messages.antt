@@ -3,7 +3,7 @@ use Prim.Native.Nat.{ℕ}
 use mathlib.Core.Path.{_≡_}
 use mathlib.Core.Bool.{Bool, true, false, _&&_, _||_}
 use mathlib.Core.List.{List, [], _∷_}
-use lib.Dec.{eqb, leb}
+use lib.Dec.{eqb}
 use lib.ListN.{getD}
 use Rattle.ground.specs.Choice.{pick}
 use Rattle.ground.specs.Refusals.{Report, reports, refuses, Cause, unless, judged}
@@ -14,7 +14,6 @@ use Rattle.message.specs.declared.codes.FunctionRead.{FunctionRead}
 use Rattle.message.specs.declared.codes.FunctionRead.the-variants.{Function as Is, Refused as NoFunction}
 use Rattle.message.specs.declared.Message.{Message}
 use Rattle.message.specs.declared.Message.the-variants.{Address, Function as Command, Extended}
-use Rattle.wire.specs.declared.Five.{Five}
 use Rattle.wire.specs.declared.MessageRead.{MessageRead}
 use Rattle.wire.specs.declared.MessageRead.the-variants.{Message as Says, Refused}
 
@@ -37,20 +36,13 @@ messageFrom kind house third «data» command =
     (pick (eqb kind 3) (takenMessage (Extended house third «data» command))
     (Refused refusal.Message)))
 
--- when it is refused: numbers that make no message; a house above 15; a third number above 15 that is a unit
-abbrev pub isFunction : FunctionRead → Bool
-isFunction (Is f) = true
-isFunction (NoFunction why) = false
+abbrev pub saysMessage : MessageRead → Bool
+saysMessage (Says m) = true
+saysMessage (Refused why) = false
 
-abbrev pub makesMessage : ℕ → ℕ → Bool
-makesMessage kind third = eqb kind 1 || (eqb kind 3 || (eqb kind 2 && isFunction (functionAnswer third)))
-
-abbrev pub messageCauses : ℕ → ℕ → ℕ → List Cause
-messageCauses kind house third =
-    unless (makesMessage kind third) refusal.Message
-    ∷ unless (leb house 15) refusal.Message
-    ∷ unless (eqb kind 2 || leb third 15) refusal.Message
-    ∷ []
+-- 2 where they make none
+abbrev pub messageCauses : ℕ → ℕ → ℕ → ℕ → ℕ → List Cause
+messageCauses kind house third «data» command = unless (saysMessage (messageFrom kind house third «data» command)) refusal.Message ∷ []
 
 -- 01's number and value for each answer
 abbrev pub messageReport : MessageRead → Report Message
@@ -72,10 +64,6 @@ messageBytes (Extended h u d c) = 3 ∷ h ∷ u ∷ d ∷ c ∷ []
 -- whether data and command are as those bytes have them, by the kind
 abbrev pub asWritten : ℕ → ℕ → ℕ → Bool
 asWritten kind «data» command = eqb kind 3 || (eqb «data» 0 && eqb command 0)
-
--- five numbers in their order
-abbrev pub listed : Five → List ℕ
-listed f = f .kind ∷ f .house ∷ f .third ∷ f .data ∷ f .command ∷ []
 
 -- ---- what holds of them: proofs/MessageLaws.antt
 

@@ -1,32 +1,19 @@
-// Messages, receivers, events and answers as numbers and bytes: what a caller in another language hands in and gets back.
+// Messages and answers as numbers: what a caller in another language hands in and gets back.
 use ground::CountAnswer;
 use ground::Refusal;
 use ground::refusal_number;
 use message::Message;
 use message::codes::FunctionRead;
 use message::codes::function_at;
-use message::codes::function_code;
 ghost use mathlib.Core.Path.{_≡_};
 ghost use Rattle.ground.specs.Refusals.{numberGiven};
-ghost use Rattle.wire.specs.Messages.{takenMessage, messageFrom, messageCauses, messageReport, listed, messageBytes};
+ghost use Rattle.wire.specs.Messages.{takenMessage, messageFrom, messageCauses, messageReport};
 ghost use Rattle.wire.specs.Packed.{packed};
-
-pub mod receivers;
 
 // What five numbers say.
 pub enum MessageRead {
     Message(Message),
     Refused(Refusal),
-}
-
-// The five numbers of a message: its kind (1 address, 2 function, 3 extended), its house, its unit or its function's code, and the
-// data and the command of an extended one.
-pub(crate) struct Five {
-    kind: u8,
-    house: u8,
-    third: u8,
-    data: u8,
-    command: u8,
 }
 
 // A message, refused where its house or unit is above 15.
@@ -43,7 +30,7 @@ fn taken(m: Message) -> MessageRead
 // one with a house or unit above 15.
 pub fn message_from(kind: u8, house: u8, third: u8, data: u8, command: u8) -> MessageRead
     ensures answer { λ r. ⌜ r ≡ messageFrom kind house third «data» command ⌝ }
-    ensures number { λ r. ⌜ messageReport r .number ≡ numberGiven (messageCauses kind house third) ⌝ }
+    ensures number { λ r. ⌜ messageReport r .number ≡ numberGiven (messageCauses kind house third «data» command) ⌝ }
 {
     if kind == 1 {
         return taken(Message::Address {
@@ -68,40 +55,6 @@ pub fn message_from(kind: u8, house: u8, third: u8, data: u8, command: u8) -> Me
             function: f,
         }),
         FunctionRead::Refused(_) => MessageRead::Refused(Refusal::Message),
-    }
-}
-
-// The five numbers of a message, 0 for data and command where it has none.
-pub(crate) fn five_of(m: Message) -> Five
-    ensures { λ r. ⌜ listed r ≡ messageBytes m ⌝ }
-{
-    match m {
-        Message::Address { house, unit } => Five {
-            kind: 1,
-            house: house,
-            third: unit,
-            data: 0,
-            command: 0,
-        },
-        Message::Function { house, function } => Five {
-            kind: 2,
-            house: house,
-            third: function_code(function),
-            data: 0,
-            command: 0,
-        },
-        Message::Extended {
-            house,
-            unit,
-            data,
-            command,
-        } => Five {
-            kind: 3,
-            house: house,
-            third: unit,
-            data: data,
-            command: command,
-        },
     }
 }
 

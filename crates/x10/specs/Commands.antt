@@ -1,24 +1,28 @@
 -- A radio command as three numbers, and as three bytes: command (0 on, 1 off, 2 bright, 3 dim), house, unit.
-use Prim.Native.Nat.{ℕ}
+use Prim.Native.Nat.{ℕ, _<_}
+use mathlib.Core.Path.{_≡_}
+use mathlib.Core.Bool.{false}
 use mathlib.Core.List.{List, [], _∷_}
 use lib.Dec.{eqb}
 use Rattle.ground.specs.Choice.{pick}
-use Rattle.ground.specs.declared.Refusal.the-variants as refusal
+use Rattle.radio.specs.Codes.{commandOk}
 use Rattle.radio.specs.declared.RadioCommand.{RadioCommand}
 use Rattle.radio.specs.declared.RadioCommand.the-variants.{On, Off, Bright, Dim}
-use Rattle.x10.specs.declared.commands.CommandRead.{CommandRead}
-use Rattle.x10.specs.declared.commands.CommandRead.the-variants.{Command as Says, Refused}
 use Rattle.x10.specs.declared.commands.Three.{Three}
 
--- the command that three numbers say: 2 for a number above 3. The unit is not looked at for bright and dim, and a house or unit above 15 is
--- the writer's to refuse.
-unfoldable pub commandFrom : ℕ → ℕ → ℕ → CommandRead
+-- the command that three numbers say; the unit is not looked at for bright and dim. A number above 3 makes none, and is handed on as a
+-- command of house 16: the writer refuses it by 2, as any house or unit above 15, in its own order.
+unfoldable pub commandFrom : ℕ → ℕ → ℕ → RadioCommand
 commandFrom command house unit =
-    pick (eqb command 0) (Says (On house unit))
-    (pick (eqb command 1) (Says (Off house unit))
-    (pick (eqb command 2) (Says (Bright house))
-    (pick (eqb command 3) (Says (Dim house))
-    (Refused refusal.Message))))
+    pick (eqb command 0) (On house unit)
+    (pick (eqb command 1) (Off house unit)
+    (pick (eqb command 2) (Bright house)
+    (pick (eqb command 3) (Dim house)
+    (Bright 16))))
+
+-- "house or unit above 15", of a number that makes no command: proofs/Refusals.antt
+abbrev pub NoCommandRefused : Type 0
+NoCommandRefused = (command house unit : ℕ) → 3 < command → commandOk (commandFrom command house unit) ≡ false
 
 -- the three bytes of a command, 0 for the unit of bright and dim
 abbrev pub commandBytes : RadioCommand → List ℕ

@@ -1,3 +1,3 @@
 pub mod Commands
+pub mod Messages
 pub mod Radio
-pub mod Tables

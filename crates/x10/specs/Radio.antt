@@ -1,9 +1,10 @@
 -- `x10_radio_write` and `x10_radio_read`: a radio command in three numbers, and its four bytes.
 use Prim.Native.Nat.{ℕ}
+use mathlib.Core.Path.{_≡_}
 use mathlib.Core.List.{List, [], _∷_, _++_}
 use lib.Dec.{leb}
 use lib.ListN.{length, drop}
-use Rattle.ground.specs.Refusals.{Cause, unless, judged}
+use Rattle.ground.specs.Refusals.{Cause, unless, judged, numberGiven, lowest}
 use Rattle.ground.specs.declared.CountAnswer.{CountAnswer}
 use Rattle.ground.specs.declared.CountAnswer.the-variants.{Done, Refused}
 use Rattle.ground.specs.declared.Refusal.the-variants as refusal
@@ -11,8 +12,6 @@ use Rattle.radio.specs.Codes.{fourBytes, commandOf}
 use Rattle.radio.specs.Answers.{writeCauses, readCauses}
 use Rattle.radio.specs.declared.RadioCommand.{RadioCommand}
 use Rattle.x10.specs.Commands.{commandBytes}
-use Rattle.x10.specs.declared.commands.CommandRead.{CommandRead}
-use Rattle.x10.specs.declared.commands.CommandRead.the-variants.{Command as Says, Refused as NoCommand}
 
 -- bytes at a buffer's front; "bytes beyond stay"
 abbrev pub front : List ℕ → List ℕ → List ℕ
@@ -29,14 +28,9 @@ codeAnswer k room = judged (codeCauses k room) (Done 4) Refused
 unfoldable pub codeAfter : RadioCommand → List ℕ → List ℕ
 codeAfter k buf = judged (codeCauses k (length buf)) (front (fourBytes k) buf) (λ why. buf)
 
--- of three numbers that say no command, the refusal
-abbrev pub codeAnswerBy : CommandRead → ℕ → CountAnswer
-codeAnswerBy (Says k) room = codeAnswer k room
-codeAnswerBy (NoCommand why) room = Refused why
-
-abbrev pub codeAfterBy : CommandRead → List ℕ → List ℕ
-codeAfterBy (Says k) buf = codeAfter k buf
-codeAfterBy (NoCommand why) buf = buf
+-- "Within one routine the lowest number that applies is given.": proofs/Refusals.antt
+abbrev pub CodeLowest : Type 0
+CodeLowest = (k : RadioCommand) (room : ℕ) → lowest (codeCauses k room) ≡ numberGiven (codeCauses k room)
 
 -- ---- reading: 9 for a buffer below 3, and then what the reader refuses, 12, 13, 14
 
@@ -48,3 +42,7 @@ commandAnswer code room = judged (commandCauses code room) (Done 3) Refused
 
 unfoldable pub commandAfter : List ℕ → List ℕ → List ℕ
 commandAfter code buf = judged (commandCauses code (length buf)) (front (commandBytes (commandOf code)) buf) (λ why. buf)
+
+-- "Within one routine the lowest number that applies is given.": proofs/Refusals.antt
+abbrev pub CommandLowest : Type 0
+CommandLowest = (code : List ℕ) (room : ℕ) → lowest (commandCauses code room) ≡ numberGiven (commandCauses code room)

@@ -1,14 +1,7 @@
 // A radio command as numbers and bytes.
-use ground::Refusal;
 use radio::RadioCommand;
 ghost use mathlib.Core.Path.{_≡_};
 ghost use Rattle.x10.specs.Commands.{commandFrom, threeListed, commandBytes};
-
-// What three numbers say.
-pub enum CommandRead {
-    Command(RadioCommand),
-    Refused(Refusal),
-}
 
 // The three numbers of a radio command: 0 on, 1 off, 2 bright, 3 dim; its house; its unit, 0 where it has none.
 pub struct Three {
@@ -17,22 +10,22 @@ pub struct Three {
     pub unit: u8,
 }
 
-// The radio command that three numbers say. A house or a unit above 15 is not judged here.
-pub(crate) fn command_from(command: u8, house: u8, unit: u8) -> CommandRead
+// The radio command that three numbers say. Where they make none, one of house 16, which the writer refuses by 2 in its own order.
+pub(crate) fn command_from(command: u8, house: u8, unit: u8) -> RadioCommand
     ensures { λ r. ⌜ r ≡ commandFrom command house unit ⌝ }
 {
     match command {
-        0 => CommandRead::Command(RadioCommand::On {
+        0 => RadioCommand::On {
             house: house,
             unit: unit,
-        }),
-        1 => CommandRead::Command(RadioCommand::Off {
+        },
+        1 => RadioCommand::Off {
             house: house,
             unit: unit,
-        }),
-        2 => CommandRead::Command(RadioCommand::Bright { house: house }),
-        3 => CommandRead::Command(RadioCommand::Dim { house: house }),
-        _ => CommandRead::Refused(Refusal::Message),
+        },
+        2 => RadioCommand::Bright { house: house },
+        3 => RadioCommand::Dim { house: house },
+        _ => RadioCommand::Bright { house: 16 },
     }
 }
 

@@ -1,17 +1,18 @@
 // The routines that programs in C and Rust link: over numbers and lent bytes, each with one number as its answer (wire's `pack`). Every
 // number and every slice is taken; a refusal changes nothing that was lent.
-use crate::commands::CommandRead;
 use crate::commands::command_from;
 use crate::commands::three_of;
 use burst::write_burst;
 use ground::CountAnswer;
 use ground::Refusal;
+use message::Message;
 use radio::RadioBytes;
 use radio::RadioCommand;
 use radio::RadioRead;
 use radio::read;
 use radio::write;
-use record::TABLE_BYTES;
+use receiver::lent::fresh;
+use receiver::lent::receive;
 use room::apply;
 use room::mains::mains_route;
 use room::routes::radio_route;
@@ -19,24 +20,31 @@ use room::tally;
 use wire::MessageRead;
 use wire::message_from;
 use wire::pack;
-use wire::receivers::fresh;
-use wire::receivers::receive;
 ghost use mathlib.Core.Path.{_≡_};
 ghost use Prim.Native.Nat.{_≤_};
 ghost use lib.ListN.{length};
 ghost use lib.Seq.{sets};
+ghost use Rattle.burst.specs.Writer.{burstAnswer, bufferAfter};
 ghost use Rattle.wire.specs.Messages.{messageFrom};
 ghost use Rattle.wire.specs.Packed.{packed};
-ghost use Rattle.wire.specs.Receivers.{freshAnswer, freshAfter, receiveAnswer, stateAfter, eventsAfter};
-ghost use Rattle.room.specs.Rooms.{roomOf, tallied};
+ghost use Rattle.receiver.specs.Bytes.{freshAnswer, freshAfter, receiveAnswer, stateAfter, eventsAfter};
+ghost use Rattle.room.specs.Rooms.{roomOf, roomAfter, applyAnswer, tallied};
 ghost use Rattle.room.specs.Mains.{lentTo, mainsAnswer, mainsAfter, lentAfter};
 ghost use Rattle.room.specs.Routes.{radioAnswer, radioAfter};
 ghost use Rattle.bench_run.specs.BenchRuns.{lent, runAnswer, linesAfter, marksAfter};
 ghost use Rattle.x10.specs.Commands.{commandFrom, commandBytes};
-ghost use Rattle.x10.specs.Radio.{codeAnswer, codeAfter, codeAnswerBy, codeAfterBy, commandAnswer, commandAfter};
-ghost use Rattle.x10.specs.Tables.{burstAnswerBy, bufferAfterBy, applyAnswerBy, roomAfterBy};
+ghost use Rattle.x10.specs.Messages.{noMessage, handedOn};
+ghost use Rattle.x10.specs.Radio.{codeAnswer, codeAfter, commandAnswer, commandAfter};
 
 mod commands;
+
+// What is handed on for five numbers that make no message: one of house 16, which every routine refuses by 2 in its own order. It is
+// handed on by a call of its own: a message chosen first would be copied.
+fn no_message() -> Message
+    ensures { λ r. ⌜ r ≡ noMessage ⌝ }
+{
+    Message::Address { house: 16, unit: 0 }
+}
 
 // Writes the burst of a message to the front of a lent buffer; the count is that of its half-cycles. Refused 2, 9.
 #[no_mangle]
@@ -48,12 +56,12 @@ pub extern "C" fn x10_burst(
     command: u8,
     buf: &mut [u8],
 ) -> u64
-    ensures answer { λ r. ⌜ r ≡ packed (burstAnswerBy (messageFrom kind house third «data» command) (length (now (buf .entry)))) ⌝ }
-    ensures buffer { λ _. ⌜ now (buf .exit) ≡ bufferAfterBy (messageFrom kind house third «data» command) (now (buf .entry)) ⌝ }
+    ensures answer { λ r. ⌜ r ≡ packed (burstAnswer (handedOn (messageFrom kind house third «data» command)) (length (now (buf .entry)))) ⌝ }
+    ensures buffer { λ _. ⌜ now (buf .exit) ≡ bufferAfter (handedOn (messageFrom kind house third «data» command)) (now (buf .entry)) ⌝ }
 {
     match message_from(kind, house, third, data, command) {
         MessageRead::Message(m) => pack(write_burst(m, buf)),
-        MessageRead::Refused(why) => pack(CountAnswer::Refused(why)),
+        MessageRead::Refused(_) => pack(write_burst(no_message(), buf)),
     }
 }
 
@@ -100,13 +108,10 @@ fn write_code(k: RadioCommand, out: &mut [u8]) -> CountAnswer
 // Writes the four bytes of a radio command to the front of a lent buffer; the count is 4. Refused 2, 9.
 #[no_mangle]
 pub extern "C" fn x10_radio_write(command: u8, house: u8, unit: u8, out: &mut [u8]) -> u64
-    ensures answer { λ r. ⌜ r ≡ packed (codeAnswerBy (commandFrom command house unit) (length (now (out .entry)))) ⌝ }
-    ensures buffer { λ _. ⌜ now (out .exit) ≡ codeAfterBy (commandFrom command house unit) (now (out .entry)) ⌝ }
+    ensures answer { λ r. ⌜ r ≡ packed (codeAnswer (commandFrom command house unit) (length (now (out .entry)))) ⌝ }
+    ensures buffer { λ _. ⌜ now (out .exit) ≡ codeAfter (commandFrom command house unit) (now (out .entry)) ⌝ }
 {
-    match command_from(command, house, unit) {
-        CommandRead::Command(k) => pack(write_code(k, out)),
-        CommandRead::Refused(why) => pack(CountAnswer::Refused(why)),
-    }
+    pack(write_code(command_from(command, house, unit), out))
 }
 
 // Puts the three numbers of a radio command at the front of a buffer.
@@ -149,17 +154,12 @@ pub extern "C" fn x10_apply(
     data: u8,
     command: u8,
 ) -> u64
-    ensures answer { λ r. ⌜ r ≡ packed (tallied (applyAnswerBy (messageFrom kind house third «data» command) (roomOf (now (table .entry))))) ⌝ }
-    ensures room { λ _. ⌜ roomOf (now (table .exit)) ≡ roomAfterBy (messageFrom kind house third «data» command) (roomOf (now (table .entry))) ⌝ }
+    ensures answer { λ r. ⌜ r ≡ packed (tallied (applyAnswer (handedOn (messageFrom kind house third «data» command)) (roomOf (now (table .entry))))) ⌝ }
+    ensures room { λ _. ⌜ roomOf (now (table .exit)) ≡ roomAfter (handedOn (messageFrom kind house third «data» command)) (roomOf (now (table .entry))) ⌝ }
 {
     match message_from(kind, house, third, data, command) {
         MessageRead::Message(m) => pack(tally(apply(table, m))),
-        MessageRead::Refused(why) => {
-            if table.len() != TABLE_BYTES {
-                return pack(CountAnswer::Refused(Refusal::Table));
-            }
-            pack(CountAnswer::Refused(why))
-        }
+        MessageRead::Refused(_) => pack(tally(apply(table, no_message()))),
     }
 }
 
@@ -184,9 +184,11 @@ pub extern "C" fn x10_mains_route(
     answers: &mut [u8],
 ) -> u64
     ensures answer { λ r.
-        ⌜ r ≡ packed (tallied (mainsAnswer (lentTo (now (state .entry)) (now (halves .entry)) (now (events .entry)) (now (answers .entry))) (roomOf (now (table .entry))))) ⌝ }
+        ⌜ r ≡ packed (tallied (mainsAnswer (lentTo (now (state .entry)) (now (halves .entry)) (now (events .entry)) (now (answers .entry)))
+        (roomOf (now (table .entry))))) ⌝ }
     ensures room { λ _.
-        ⌜ roomOf (now (table .exit)) ≡ mainsAfter (lentTo (now (state .entry)) (now (halves .entry)) (now (events .entry)) (now (answers .entry))) (roomOf (now (table .entry))) ⌝ }
+        ⌜ roomOf (now (table .exit)) ≡ mainsAfter (lentTo (now (state .entry)) (now (halves .entry)) (now (events .entry)) (now (answers .entry)))
+        (roomOf (now (table .entry))) ⌝ }
     ensures lent { λ _.
         ⌜ lentTo (now (state .exit)) (now (halves .entry)) (now (events .exit)) (now (answers .exit))
         ≡ lentAfter (lentTo (now (state .entry)) (now (halves .entry)) (now (events .entry)) (now (answers .entry))) (roomOf (now (table .entry))) ⌝ }
@@ -204,9 +206,12 @@ pub extern "C" fn x10_bench_run(
     lines: &mut [u8],
     marks: &mut [u8],
 ) -> u64
-    ensures answer { λ r. ⌜ r ≡ packed (runAnswer (lent (now (messages .entry)) (now (loads .entry)) (now (draws .entry)) (now (lines .entry)) (now (marks .entry)))) ⌝ }
-    ensures lines { λ _. ⌜ now (lines .exit) ≡ linesAfter (lent (now (messages .entry)) (now (loads .entry)) (now (draws .entry)) (now (lines .entry)) (now (marks .entry))) ⌝ }
-    ensures marks { λ _. ⌜ now (marks .exit) ≡ marksAfter (lent (now (messages .entry)) (now (loads .entry)) (now (draws .entry)) (now (lines .entry)) (now (marks .entry))) ⌝ }
+    ensures answer { λ r. ⌜ r
+        ≡ packed (runAnswer (lent (now (messages .entry)) (now (loads .entry)) (now (draws .entry)) (now (lines .entry)) (now (marks .entry)))) ⌝ }
+    ensures lines { λ _. ⌜ now (lines .exit)
+        ≡ linesAfter (lent (now (messages .entry)) (now (loads .entry)) (now (draws .entry)) (now (lines .entry)) (now (marks .entry))) ⌝ }
+    ensures marks { λ _. ⌜ now (marks .exit)
+        ≡ marksAfter (lent (now (messages .entry)) (now (loads .entry)) (now (draws .entry)) (now (lines .entry)) (now (marks .entry))) ⌝ }
 {
     pack(bench_run::run(messages, loads, draws, lines, marks))
 }

@@ -5,7 +5,8 @@ use native.Mathlib.Omega.{arith}
 use Rattle.ground.proofs.Causes.{bad, fine}
 use lib.ListN.{length, drop}
 use borrow.Author.Needs.{needs}
-use Rattle.bench_run.specs.BenchRuns.{saysMessage, allSay}
+use Rattle.wire.specs.Messages.{saysMessage}
+use Rattle.bench_run.specs.BenchRuns.{allSay}
 use Rattle.bench_run.proofs.LoadLaws.{say-cons}
 use Rattle.bench_run.proofs.messages_fine.Statement.{statement}
 use Rattle.bench_run.proofs.messages_fine.Tie as tie

@@ -7,21 +7,21 @@ use lib.ListN.{length}
 use Rattle.ground.specs.Refusals.{judged, refusalNumber}
 use Rattle.ground.specs.declared.Refusal.the-variants as refusal
 use Rattle.ground.proofs.Causes.{ladder}
-use Rattle.bench_run.specs.BenchRuns.{Lent, lent, runCauses, runAnswer}
+use Rattle.bench_run.specs.BenchRuns.{RunSlices, lent, runCauses, runAnswer}
 use Rattle.bench_run.proofs.RunLaws.{draws-match, draws-differ, run-refused, run-done}
 use borrow.Author.Needs.{needs}
 use Rattle.bench_run.proofs.run.Statement.{statement}
 use Rattle.bench_run.proofs.run.Tie as tie
 
 -- what is lent, and how many draws it has by the quotient and the remainder
-abbrev lentAt : tie.Start → Lent
+abbrev lentAt : tie.Start → RunSlices
 lentAt c = let a = c .args in lent (a .messages .now) (a .loads .now) (a .draws .now) (a .lines .now) (a .marks .now)
 
-match : (l : Lent) → length (l .draws) / length (l .loads) ≡ length (l .lines) → length (l .draws) % length (l .loads) ≡ 0
+match : (l : RunSlices) → length (l .draws) / length (l .loads) ≡ length (l .lines) → length (l .draws) % length (l .loads) ≡ 0
     → length (l .draws) ≡ length (l .loads) * length (l .lines)
 match l = draws-match (length (l .loads)) (length (l .draws)) (length (l .lines))
 
-differ : (l : Lent) → 0 < length (l .loads) → length (l .draws) ≡ length (l .loads) * length (l .lines)
+differ : (l : RunSlices) → 0 < length (l .loads) → length (l .draws) ≡ length (l .loads) * length (l .lines)
     → (length (l .draws) / length (l .loads) ≡ length (l .lines)) × (length (l .draws) % length (l .loads) ≡ 0)
 differ l = draws-differ (length (l .loads)) (length (l .draws)) (length (l .lines))
 

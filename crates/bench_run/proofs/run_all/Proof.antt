@@ -35,8 +35,8 @@ line-byte-requires c κs = search needs
 slice-write-lines : tie.Need-slice-write-lines Inv-loop μ-loop
 slice-write-lines c = omega arith
 
-mask-of-requires : tie.Need-mask-of-requires Inv-loop μ-loop
-mask-of-requires c κs = search needs
+done-mask-requires : tie.Need-done-mask-requires Inv-loop μ-loop
+done-mask-requires c κs = search needs
 
 cast-marks : tie.Need-cast-marks Inv-loop μ-loop
 cast-marks c = search needs
@@ -82,7 +82,7 @@ loop-again c =
     calling-next (now .inv) (omega (arith, now .inv .lines-long))
     (c .before .before .before .before .half-cycle .result) (c .before .before .before .before .before .draws-at .result)
     (c .before .before .before .before .half-cycle .ensures .0) (c .before .before .before .before .before .draws-at .ensures)
-    (c .before .before .line-byte .ensures) (c .before .mask-of .ensures) (c .counts-as .ensures)
+    (c .before .before .line-byte .ensures) (c .before .done-mask .ensures) (c .counts-as .ensures)
 
 same-length : tie.Need-same-length Inv-loop μ-loop
 same-length c = c .before .loop .inv .lines-long
@@ -104,7 +104,7 @@ run-all-spec =
     half-cycle-requires
     line-byte-requires
     slice-write-lines
-    mask-of-requires
+    done-mask-requires
     cast-marks
     mul-marks
     slice-write-marks

@@ -23,14 +23,11 @@ loop-holds c = (omega arith, refl, refl)
 sub-left : tie.Need-sub-left Inv-loop μ-loop
 sub-left c = omega arith
 
-cast-bit : tie.Need-cast-bit Inv-loop μ-loop
-cast-bit c = search needs
-
 shr-bit : tie.Need-shr-bit Inv-loop μ-loop
 shr-bit c = omega arith
 
-cast-bit-2 : tie.Need-cast-bit-2 Inv-loop μ-loop
-cast-bit-2 c = search needs
+cast-bit : tie.Need-cast-bit Inv-loop μ-loop
+cast-bit c = search needs
 
 array-write-out : tie.Need-array-write-out Inv-loop μ-loop
 array-write-out c = omega arith
@@ -70,9 +67,8 @@ put-pairs-spec =
     μ-loop
     loop-holds
     sub-left
-    cast-bit
     shr-bit
-    cast-bit-2
+    cast-bit
     array-write-out
     sub-out
     add-out

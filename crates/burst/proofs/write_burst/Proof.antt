@@ -4,7 +4,7 @@ use Rattle.ground.specs.Refusals.{countReport}
 use Rattle.ground.specs.declared.CountAnswer.the-variants.{Done, Refused}
 use Rattle.ground.proofs.Causes.{ladder, judged-map}
 use Rattle.burst.specs.Frames.{burstLength}
-use Rattle.burst.specs.Writer.{roomCauses, burstAnswer, bufferAfter}
+use Rattle.burst.specs.Writer.{shortCauses, burstAnswer, bufferAfter}
 use Rattle.burst.proofs.Writing.{has-bits, no-bits, few-bits}
 use borrow.Author.Needs.{needs}
 use Rattle.burst.proofs.write_burst.Statement.{statement}
@@ -38,7 +38,7 @@ returns c =
     let ok = bits .0 in
     let rest = c .before .before .write-word .ensures .0 m (bits .1) in
     let buffer = c .before .before .write-word .ensures .1 m (bits .1) in
-    let report = ap countReport rest ∙ judged-map countReport (Done (burstLength m)) Refused (roomCauses m _) in
+    let report = ap countReport rest ∙ judged-map countReport (Done (burstLength m)) Refused (shortCauses m _) in
     (search ladder, (search ladder, search ladder))
 
 returns-2 : tie.Need-returns-2

@@ -44,7 +44,8 @@ returns-2 c =
           search (ladder, ap Done (ap (λ (k : ℕ). k + k) n)),
       λ m e. let n = length-of-word m w (f .result) e (f .ensures) in
           let room = rw n at (le-leb _ _ left) in
-          let copied = burst-copied m _ _ _ _ (ap (λ (k : ℕ). k + k) n) (c .before .before .before .before .whole-burst .ensures m e) (c .before .before .copy-front .ensures) in
+          let copied = burst-copied m _ _ _ _ (ap (λ (k : ℕ). k + k) n) (c .before .before .before .before .whole-burst .ensures m e)
+          (c .before .before .copy-front .ensures) in
           search ladder,
     )
 

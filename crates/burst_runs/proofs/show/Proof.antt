@@ -40,7 +40,12 @@ array-share-prefix-text c = search needs
 slice-aggregate-write-all-2 : tie.Need-slice-aggregate-write-all-2
 slice-aggregate-write-all-2 c =
     let whole : length (c .before .digits .result) ≡ 126 = search needs in
-    sym (length-take-le _ (c .before .digits .result) (omega (arith, whole, c .before .before .before .before .before .before .before .before .before .if1 .left)))
+    sym (length-take-le _ (c .before .digits .result) (omega (
+      arith,
+      whole,
+      c .before .before .before .before .before .before .before .before
+          .before .if1 .left,
+    )))
 
 write-all-requires-3 : tie.Need-write-all-requires-3
 write-all-requires-3 c κs = search needs

@@ -1,4 +1,5 @@
 -- `valid` meets its contract: in each arm the message is the one that the pattern names.
+use borrow.Author.Tests.{le-leb, lt-leb}
 use borrow.Author.Needs.{needs}
 use Rattle.message.proofs.valid.Statement.{statement}
 use Rattle.message.proofs.valid.Tie as tie
@@ -13,14 +14,20 @@ enum-known-m-3 : tie.Need-enum-known-m-3
 enum-known-m-3 c = search needs
 
 returns : tie.Need-returns
-returns c = rw (c .before .m .given .1)
+returns c = simp (c .before .before .m .given .1, le-leb _ _ (c .if1 .taken))
 
 returns-2 : tie.Need-returns-2
-returns-2 c = rw (c .before .m2 .given .1)
+returns-2 c = simp (c .before .before .m .given .1, lt-leb _ _ (c .if1 .left))
 
 returns-3 : tie.Need-returns-3
-returns-3 c = rw (c .before .m3 .given .1)
+returns-3 c = rw (c .before .m2 .given .1)
+
+returns-4 : tie.Need-returns-4
+returns-4 c = simp (c .before .before .m3 .given .1, le-leb _ _ (c .if2 .taken))
+
+returns-5 : tie.Need-returns-5
+returns-5 c = simp (c .before .before .m3 .given .1, lt-leb _ _ (c .if2 .left))
 
 pub valid-spec : {M : Type 1} → statement M
 valid-spec =
-    tie.close (tie.spec enum-known-m enum-known-m-2 enum-known-m-3 returns returns-2 returns-3)
+    tie.close (tie.spec enum-known-m enum-known-m-2 enum-known-m-3 returns returns-2 returns-3 returns-4 returns-5)

@@ -24,7 +24,8 @@ returns : tie.Need-returns
 unfolding codeAnswer codeAfter
 returns c =
     let v = c .before .before .b .given in
-    let did = wrote (c .before .before .before .before .before .before .args .k) (v .0 .0 ∷ v .0 .1 .0 ∷ v .0 .1 .1 .0 ∷ v .0 .1 .1 .1 .0 ∷ []) (sym (ap writeReport (v .1)) ∙ c .before .before .before .before .write .ensures .1) in
+    let did = wrote (c .before .before .before .before .before .before .args .k) (v .0 .0 ∷ v .0 .1 .0 ∷ v .0 .1 .1 .0 ∷ v .0 .1 .1 .1 .0 ∷ []) (sym
+    (ap writeReport (v .1)) ∙ c .before .before .before .before .write .ensures .1) in
     let ok = did .0 in
     (search ladder, search ladder)
 
@@ -52,7 +53,8 @@ returns-2 c =
     let v = c .before .before .b .given in
     let xs : List ℕ = v .0 .0 ∷ v .0 .1 .0 ∷ v .0 .1 .1 .0 ∷ v .0 .1 .1 .1 .0 ∷ [] in
     let out = c .before .before .before .before .before .before .args .out .now in
-    let did = wrote (c .before .before .before .before .before .before .args .k) xs (sym (ap writeReport (v .1)) ∙ c .before .before .before .before .write .ensures .1) in
+    let did = wrote (c .before .before .before .before .before .before .args .k) xs (sym (ap writeReport (v .1))
+    ∙ c .before .before .before .before .write .ensures .1) in
     let ok = did .0 in
     let put = sets-front xs out (c .if1 .left) ∙ ap (λ (l : List ℕ). front l out) (did .1) in
     (search ladder, search ladder)

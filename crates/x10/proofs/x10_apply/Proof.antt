@@ -1,7 +1,5 @@
--- `x10_apply` meets its contract: what the numbers are read as, and then the promise of `apply`; of no message, the table's length.
-use mathlib.Core.Path.{refl, sym, ap, _∙_}
-use borrow.Author.Tests.{eq-eqb, ne-eqb}
-use Rattle.ground.specs.Refusals.{judged}
+-- `x10_apply` meets its contract: what the numbers are read as, and then the promise of `apply`.
+use mathlib.Core.Path.{sym, ap, _∙_}
 use Rattle.room.specs.Rooms.{tallied}
 use Rattle.wire.specs.Packed.{packed}
 use borrow.Author.Needs.{needs}
@@ -23,31 +21,41 @@ tally-requires c κs = search needs
 pack-requires : tie.Need-pack-requires
 pack-requires c κs = search needs
 
-enum-known-why : tie.Need-enum-known-why
-enum-known-why c = search needs
+enum-told : tie.Need-enum-told
+enum-told c = search needs
+
+no-message-requires : tie.Need-no-message-requires
+no-message-requires c κs = search needs
+
+apply-requires-2 : tie.Need-apply-requires-2
+apply-requires-2 c κs = search needs
+
+tally-requires-2 : tie.Need-tally-requires-2
+tally-requires-2 c κs = search needs
 
 pack-requires-2 : tie.Need-pack-requires-2
 pack-requires-2 c κs = search needs
 
-returns : tie.Need-returns
-unfolding judged
-returns c = rw (sym (c .before .before .before .before .before .message-from .ensures .0) ∙ c .before .before .before .why .given .1, ne-eqb _ _ (c .before .if1 .taken)) (c .pack2 .ensures, refl)
-
-pack-requires-3 : tie.Need-pack-requires-3
-pack-requires-3 c κs = search needs
-
 same-length : tie.Need-same-length
 same-length c = search needs
 
-returns-2 : tie.Need-returns-2
-returns-2 c =
-    let says = sym (c .before .before .before .before .before .before .before .before .before .message-from .ensures .0) ∙ c .before .before .before .before .before .before .before .m .given .1 in
+returns : tie.Need-returns
+returns c =
+    let arm = c .before .before .before .before .before .before .before in
+    let says = sym (arm .before .before .message-from .ensures .0) ∙ arm .m .given .1 in
     let did = c .before .before .before .before .apply .ensures in
     rw says (c .pack .ensures ∙ ap packed (c .before .tally .ensures ∙ ap tallied (did .0)), did .1 .1)
 
-returns-3 : tie.Need-returns-3
-unfolding judged
-returns-3 c = rw (sym (c .before .before .before .before .before .message-from .ensures .0) ∙ c .before .before .before .why .given .1, eq-eqb _ _ (c .before .if1 .left)) (c .pack3 .ensures, refl)
+same-length-2 : tie.Need-same-length-2
+same-length-2 c = search needs
+
+returns-2 : tie.Need-returns-2
+returns-2 c =
+    let arm = c .before .before .before .before .before .before .before in
+    let says = sym (arm .before .before .message-from .ensures .0) ∙ arm .enum-told .given .1 in
+    let none = sym (c .before .before .before .before .before .no-message .ensures) in
+    let did = c .before .before .before .before .apply2 .ensures in
+    rw (says, none) (c .pack2 .ensures ∙ ap packed (c .before .tally2 .ensures ∙ ap tallied (did .0)), did .1 .1)
 
 pub x10-apply-spec : {M : Type 1} → statement M
 x10-apply-spec =
@@ -58,10 +66,12 @@ x10-apply-spec =
     apply-requires
     tally-requires
     pack-requires
-    enum-known-why
+    enum-told
+    no-message-requires
+    apply-requires-2
+    tally-requires-2
     pack-requires-2
-    returns
-    pack-requires-3
     same-length
-    returns-2
-    returns-3)
+    returns
+    same-length-2
+    returns-2)

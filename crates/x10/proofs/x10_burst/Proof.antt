@@ -1,5 +1,5 @@
 -- `x10_burst` meets its contract: what the numbers are read as, and then the writer's own promise.
-use mathlib.Core.Path.{refl, sym, ap, _∙_}
+use mathlib.Core.Path.{sym, ap, _∙_}
 use Rattle.wire.specs.Packed.{packed}
 use borrow.Author.Needs.{needs}
 use Rattle.x10.proofs.x10_burst.Statement.{statement}
@@ -17,8 +17,14 @@ write-burst-requires c κs = search needs
 pack-requires : tie.Need-pack-requires
 pack-requires c κs = search needs
 
-enum-known-why : tie.Need-enum-known-why
-enum-known-why c = search needs
+enum-told : tie.Need-enum-told
+enum-told c = search needs
+
+no-message-requires : tie.Need-no-message-requires
+no-message-requires c κs = search needs
+
+write-burst-requires-2 : tie.Need-write-burst-requires-2
+write-burst-requires-2 c κs = search needs
 
 pack-requires-2 : tie.Need-pack-requires-2
 pack-requires-2 c κs = search needs
@@ -28,12 +34,21 @@ same-length c = search needs
 
 returns : tie.Need-returns
 returns c =
-    let says = sym (c .before .before .before .before .before .before .before .before .message-from .ensures .0) ∙ c .before .before .before .before .before .before .m .given .1 in
+    let arm = c .before .before .before .before .before .before in
+    let says = sym (arm .before .before .message-from .ensures .0) ∙ arm .m .given .1 in
     let did = c .before .before .before .write-burst .ensures in
     rw says (c .pack .ensures ∙ ap packed (did .0), did .1 .1)
 
+same-length-2 : tie.Need-same-length-2
+same-length-2 c = search needs
+
 returns-2 : tie.Need-returns-2
-returns-2 c = rw (sym (c .before .before .before .before .message-from .ensures .0) ∙ c .before .before .why .given .1) (c .pack2 .ensures, refl)
+returns-2 c =
+    let arm = c .before .before .before .before .before .before in
+    let says = sym (arm .before .before .message-from .ensures .0) ∙ arm .enum-told .given .1 in
+    let none = sym (c .before .before .before .before .before .no-message .ensures) in
+    let did = c .before .before .before .write-burst2 .ensures in
+    rw (says, none) (c .pack2 .ensures ∙ ap packed (did .0), did .1 .1)
 
 pub x10-burst-spec : {M : Type 1} → statement M
 x10-burst-spec =
@@ -43,8 +58,11 @@ x10-burst-spec =
     enum-known-m
     write-burst-requires
     pack-requires
-    enum-known-why
+    enum-told
+    no-message-requires
+    write-burst-requires-2
     pack-requires-2
     same-length
     returns
+    same-length-2
     returns-2)

@@ -51,7 +51,8 @@ returns-2 c =
     let out = args .out .now in
     let long = c .before .before .before .before .before .before .before .before .before .if1 .left in
     let k = c .before .before .before .before .before .before .k .given in
-    let named = was-read (commandOf code) (readCauses code) (k .0 .0) (sym (c .before .before .before .before .before .before .before .before .read .ensures .0) ∙ k .1) in
+    let named = was-read (commandOf code) (readCauses code) (k .0 .0) (sym
+    (c .before .before .before .before .before .before .before .before .read .ensures .0) ∙ k .1) in
     let done = nothing-refused (Done 3) Refused (readCauses code) (named .0) in
     let left = nothing-refused (front (commandBytes (commandOf code)) out) (λ why. out) (readCauses code) (named .0) in
     let put = c .before .before .before .put-command .ensures ∙ command-placed (k .0 .0) out long ∙ ap (λ j. front (commandBytes j) out) (sym (named .1)) in

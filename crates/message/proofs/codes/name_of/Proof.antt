@@ -28,7 +28,8 @@ unfolding nameAt functionNames padded bytesOf bytesFrom
 returns c =
     let code = c .before .function-code .ensures in
     let f = c .before .before .args .f in
-    rw code (getD-any (map padded functionNames) (functionCode f) [] (padded []) (function-code-below f) ∙ List·getD-map padded functionNames (functionCode f) [])
+    rw code (getD-any (map padded functionNames) (functionCode f) [] (padded []) (function-code-below f)
+    ∙ List·getD-map padded functionNames (functionCode f) [])
 
 pub name-of-spec : {M : Type 1} → statement M
 name-of-spec =

@@ -76,10 +76,22 @@ returns : tie.Need-returns
 returns c = simp (c .nine-bits .ensures, c .before .line-code2 .ensures, c .before .before .line-code .ensures, c .before .before .before .before .m .given .1)
 
 returns-2 : tie.Need-returns-2
-returns-2 c = simp (c .nine-bits2 .ensures, c .before .function-code .ensures, c .before .before .line-code3 .ensures, c .before .before .before .before .m2 .given .1)
+returns-2 c = simp (
+  c .nine-bits2 .ensures,
+  c .before .function-code .ensures,
+  c .before .before .line-code3 .ensures,
+  c .before .before
+      .before .before .m2 .given .1,
+)
 
 returns-3 : tie.Need-returns-3
-returns-3 c = simp (c .line-code5 .ensures, c .before .nine-bits3 .ensures, c .before .before .line-code4 .ensures, c .before .before .before .before .m3 .given .1)
+returns-3 c = simp (
+  c .line-code5 .ensures,
+  c .before .nine-bits3 .ensures,
+  c .before .before .line-code4 .ensures,
+  c .before .before .before
+      .before .m3 .given .1,
+)
 
 pub bits-of-spec : {M : Type 1} → statement M
 bits-of-spec =

@@ -36,7 +36,12 @@ enum-told-2 c = search needs
 
 returns-2 : tie.Need-returns-2
 unfolding standardOf
-returns-2 c = simp (c .before .before .before .before .before .line-number .ensures, ne-eqb _ _ (c .before .before .before .before .if1 .left), sym (c .before .before .before .meaning-at .ensures) ∙ c .before .f .given .1)
+returns-2 c = simp (
+  c .before .before .before .before .before .line-number .ensures,
+  ne-eqb _ _ (c .before .before .before .before .if1 .left),
+  sym
+      (c .before .before .before .meaning-at .ensures) ∙ c .before .f .given .1,
+)
 
 returns-3 : tie.Need-returns-3
 unfolding standardOf

@@ -1,20 +1,16 @@
--- `answer_to` meets its contract: the code says whether there is a message, and its answer is packed.
-use mathlib.Core.Path.{refl, sym, ap, _∙_}
-use borrow.Author.Tests.{eq-eqb, ne-eqb}
+-- `answer_to` meets its contract: without a message nothing is done, and one that was given is applied.
+use mathlib.Core.Path.{refl, ap, _∙_}
+use borrow.Author.Needs.{needs}
 use Rattle.wire.specs.Packed.{packed}
 use Rattle.room.specs.Rooms.{tallied}
-use borrow.Author.Needs.{needs}
 use Rattle.room.proofs.mains.answer_to.Statement.{statement}
 use Rattle.room.proofs.mains.answer_to.Tie as tie
 
-returns : tie.Need-returns
-returns c = rw (ne-eqb _ _ (c .if1 .taken)) (refl, refl)
+enum-told : tie.Need-enum-told
+enum-told c = search needs
 
-message-from-requires : tie.Need-message-from-requires
-message-from-requires c κs = search needs
-
-enum-known-m : tie.Need-enum-known-m
-enum-known-m c = search needs
+enum-known-given : tie.Need-enum-known-given
+enum-known-given c = search needs
 
 apply-valid-requires : tie.Need-apply-valid-requires
 apply-valid-requires c κs = search needs
@@ -25,36 +21,30 @@ tally-requires c κs = search needs
 pack-requires : tie.Need-pack-requires
 pack-requires c κs = search needs
 
-enum-told : tie.Need-enum-told
-enum-told c = search needs
+returns : tie.Need-returns
+returns c = rw (c .enum-told .given .1) (refl, refl)
 
 same-length : tie.Need-same-length
 same-length c = search needs
 
 returns-2 : tie.Need-returns-2
 returns-2 c =
-    let says = sym (c .before .before .before .before .before .before .before .before .before .message-from .ensures .0) ∙ c .before .before .before .before .before .before .before .m .given .1 in
-    let one = eq-eqb _ _ (c .before .before .before .before .before .before .before .before .before .before .if1 .left) in
     let applied = c .before .before .before .before .apply-valid .ensures in
-    rw (one, says) (c .pack .ensures ∙ ap packed (c .before .tally .ensures ∙ ap tallied (applied .0)), applied .1)
-
-returns-3 : tie.Need-returns-3
-returns-3 c =
-    let says = sym (c .before .before .message-from .ensures .0) ∙ c .enum-told .given .1 in
-    let one = eq-eqb _ _ (c .before .before .before .if1 .left) in
-    rw (one, says) (refl, refl)
+    rw (c .before .before .before .before .before .before .before .given .given .1) (
+      c .pack .ensures ∙ ap packed (c .before .tally .ensures
+          ∙ ap tallied (applied .0)),
+      applied .1,
+    )
 
 pub answer-to-spec : {M : Type 1} → statement M
 answer-to-spec =
     tie.close
     (tie.spec
-    returns
-    message-from-requires
-    enum-known-m
+    enum-told
+    enum-known-given
     apply-valid-requires
     tally-requires
     pack-requires
-    enum-told
+    returns
     same-length
-    returns-2
-    returns-3)
+    returns-2)

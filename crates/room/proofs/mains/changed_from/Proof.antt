@@ -6,7 +6,7 @@ use native.Mathlib.Omega.{arith}
 use borrow.Author.Needs.{needs}
 use Rattle.record.specs.Layout.{RECORDS}
 use Rattle.record.specs.ModuleTable.{changed}
-use Rattle.room.proofs.MainsLaws.{LevelsOf, changed-next}
+use Rattle.room.proofs.LevelsKept.{LevelsOf, changed-next}
 use Rattle.room.proofs.mains.changed_from.Statement.{statement}
 use Rattle.room.proofs.mains.changed_from.Tie as tie
 
@@ -20,23 +20,23 @@ loop-holds : tie.Need-loop-holds Inv-loop μ-loop
 unfolding changed
 loop-holds c = (omega arith, omega arith, λ before kept. refl)
 
-array-read-differs : tie.Need-array-read-differs Inv-loop μ-loop
-array-read-differs c = search needs
+array-read-count-of : tie.Need-array-read-count-of Inv-loop μ-loop
+array-read-count-of c = search needs
 
-mul-differs : tie.Need-mul-differs Inv-loop μ-loop
-mul-differs c = omega arith
+mul-count-of : tie.Need-mul-count-of Inv-loop μ-loop
+mul-count-of c = omega arith
 
-add-differs : tie.Need-add-differs Inv-loop μ-loop
-add-differs c = omega arith
+add-count-of : tie.Need-add-count-of Inv-loop μ-loop
+add-count-of c = omega arith
 
-shared-slice-read-differs : tie.Need-shared-slice-read-differs Inv-loop μ-loop
-shared-slice-read-differs c = omega (arith, c .before .before .before .before .pre)
+shared-slice-read-count-of : tie.Need-shared-slice-read-count-of Inv-loop μ-loop
+shared-slice-read-count-of c = omega (arith, c .before .before .before .before .pre)
 
-differs-requires : tie.Need-differs-requires Inv-loop μ-loop
-differs-requires c κs = search needs
+count-of-requires : tie.Need-count-of-requires Inv-loop μ-loop
+count-of-requires c κs = search needs
 
 add-count : tie.Need-add-count Inv-loop μ-loop
-add-count c = omega (arith, c .differs .ensures .1, c .before .before .before .loop .inv .1)
+add-count c = omega (arith, c .count-of .ensures .1, c .before .before .before .loop .inv .1)
 
 add-i : tie.Need-add-i Inv-loop μ-loop
 add-i c = omega arith
@@ -47,15 +47,17 @@ loop-less c = omega arith
 loop-again : tie.Need-loop-again Inv-loop μ-loop
 loop-again c =
     let now = c .before .before .before .loop in
-    let more = c .differs .ensures in
+    let more = c .count-of .ensures in
     let start = c .before .before .before .before .before in (
       omega arith,
       omega (arith, more .1, now .inv .1),
-      λ before kept. changed-next before (start .args .t .now) (start .args .t1) _ _ _ kept (c .before .before .loop-test .taken) (now .inv .2 before kept) (more .0),
+      λ before kept. changed-next before (start .args .t .now) (start .args .t1) _ _ _ kept (c .before .before .loop-test .taken)
+          (now .inv .2 before kept) (more .0),
     )
 
 returns : tie.Need-returns Inv-loop μ-loop
-returns c = λ before kept. let all : c .before .loop .i ≡ RECORDS = omega arith in c .before .loop .inv .2 before kept ∙ ap (λ (n : ℕ). changed n before (c .before .before .before .args .t .now)) all
+returns c = λ before kept. let all : c .before .loop .i ≡ RECORDS = omega arith in c .before .loop .inv .2 before kept
+    ∙ ap (λ (n : ℕ). changed n before (c .before .before .before .args .t .now)) all
 
 pub changed-from-spec : {M : Type 1} → statement M
 changed-from-spec =
@@ -64,11 +66,11 @@ changed-from-spec =
     Inv-loop
     μ-loop
     loop-holds
-    array-read-differs
-    mul-differs
-    add-differs
-    shared-slice-read-differs
-    differs-requires
+    array-read-count-of
+    mul-count-of
+    add-count-of
+    shared-slice-read-count-of
+    count-of-requires
     add-count
     add-i
     loop-less

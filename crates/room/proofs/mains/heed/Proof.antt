@@ -1,72 +1,112 @@
--- `heed` meets its contract: without a message nothing changes, and else the levels kept before the messages are compared with those after them.
-use mathlib.Core.Path.{refl, sym, ap, _∙_}
-use mathlib.Core.List.{[]}
-use Prim.Native.Nat.{ℕ}
+-- `heed` meets its contract: what the half-cycles from the place of now leave is what those from the first place leave. A turn takes a stretch
+-- of them off, and applies its message.
+use mathlib.Core.Path.{_≡_, refl, sym, _∙_}
+use Prim.Native.Nat.{ℕ, _-_}
 use native.Mathlib.Omega.{arith}
-use Rattle.record.specs.Layout.{RECORDS}
-use Rattle.room.specs.Rooms.{roomOf, roomOk}
-use Rattle.room.specs.declared.Changes.{Changes}
-use Rattle.room.proofs.TableLaws.{changed-none}
-use Rattle.room.proofs.HouseLaws.{whole}
-use Rattle.room.proofs.MainsLaws.{rooms-valid, came-then, came-all}
 use borrow.Author.Needs.{needs}
+use lib.ListN.{length}
+use Rattle.room.specs.Rooms.{roomOf}
+use Rattle.room.specs.Lent.{Prepared, remainsBy}
+use Rattle.room.proofs.HouseLaws.{whole}
+use Rattle.room.proofs.MainsLaws.{remains-end, turn}
 use Rattle.room.proofs.mains.heed.Statement.{statement}
 use Rattle.room.proofs.mains.heed.Tie as tie
 
-next-message-requires : tie.Need-next-message-requires
-next-message-requires c κs = search needs
+abbrev Inv-loop : tie.InvT-loop
+Inv-loop halves from table₀ events₀ answers₀ current₀ i₀ table events answers current i =
+    Prepared current halves i table events answers × (length events ≡ length events₀) × (length answers ≡ length answers₀)
+    × (remainsBy halves current i (roomOf table) events answers ≡ remainsBy halves current₀ i₀ (roomOf table₀) events₀ answers₀)
 
-same-length : tie.Need-same-length
-same-length c = search needs
+abbrev μ-loop : tie.MeasureT-loop
+μ-loop halves from table₀ events₀ answers₀ current₀ i₀ table events answers current i = length halves - i
 
-returns : tie.Need-returns
+loop-holds : tie.Need-loop-holds Inv-loop μ-loop
+loop-holds c = (search needs, refl, refl, refl)
+
+run-to-message-requires : tie.Need-run-to-message-requires Inv-loop μ-loop
+run-to-message-requires c κs = search needs
+
+place-of-requires : tie.Need-place-of-requires Inv-loop μ-loop
+place-of-requires c κs = search needs
+
+answer-stretch-requires : tie.Need-answer-stretch-requires Inv-loop μ-loop
+answer-stretch-requires c κs =
+    let halves = c .before .before .before .before .before .before .before .before .before .before .before .before .before
+    .args .halves .now in
+    let now = c .before .before .before .before .before .before .before .before .loop in
+    let ran = c .before .before .before .before .before .run-to-message in
+    let to = c .before .before .place-of in
+    let taken = turn halves (now .current) (now .i) (now .table) (now .events) (now .answers) (now .inv .0) (ran .result) _ (to .result)
+    (ran .ensures .0) (ran .ensures .1 .1) (to .ensures) in (
+      now .inv .0 .rules,
+      taken .later (c .before .before .before .before .before .before .before .loop-test .taken),
+      omega
+          (arith, taken .within, now .inv .0 .answers-space),
+    )
+
+loop-less : tie.Need-loop-less Inv-loop μ-loop
+loop-less c =
+    let halves = c .before .before .before .before .before .before .before .before .before .before .before .before .before .before .before
+    .before .before .before .before
+    .args .halves .now in
+    let now = c .before .before .before .before .before .before .before .before .before .before .before .before .before .before .loop in
+    let ran = c .before .before .before .before .before .before .before .before .before .before .before .run-to-message in
+    let to = c .before .before .before .before .before .before .before .before .place-of in
+    let taken = turn halves (now .current) (now .i) (now .table) (now .events) (now .answers) (now .inv .0) (ran .result) _ (to .result)
+    (ran .ensures .0) (ran .ensures .1 .1) (to .ensures) in
+    omega (
+      arith,
+      taken .within,
+      taken .later (c .before .before .before .before .before .before .before .before .before .before .before
+          .before .before .loop-test .taken),
+    )
+
+loop-again : tie.Need-loop-again Inv-loop μ-loop
+loop-again c =
+    let halves = c .before .before .before .before .before .before .before .before .before .before .before .before .before .before .before
+    .before .before .before .before
+    .args .halves .now in
+    let now = c .before .before .before .before .before .before .before .before .before .before .before .before .before .before .loop in
+    let ran = c .before .before .before .before .before .before .before .before .before .before .before .run-to-message in
+    let to = c .before .before .before .before .before .before .before .before .place-of in
+    let taken = turn halves (now .current) (now .i) (now .table) (now .events) (now .answers) (now .inv .0) (ran .result) _ (to .result)
+    (ran .ensures .0) (ran .ensures .1 .1) (to .ensures) in
+    let did = c .before .before .before .before .before .answer-stretch .ensures in
+    let turned = taken .after (c .before .before .before .before .before .before .before .before .before .before .before .before
+    .before .loop-test .taken) _ _ (did .0) (did .1) in
+    (turned .ready, turned .events-long ∙ now .inv .1, turned .answers-long ∙ now .inv .2, turned .same ∙ now .inv .3)
+
+same-length : tie.Need-same-length Inv-loop μ-loop
+same-length c =
+    let start = c .before .before .before .before .before .before in
+    whole _ (c .before .loop .inv .0 .rules) .size ∙ sym (whole _ (start .pre .rules) .size)
+
+same-length-2 : tie.Need-same-length-2 Inv-loop μ-loop
+same-length-2 c = c .before .loop .inv .1
+
+same-length-3 : tie.Need-same-length-3 Inv-loop μ-loop
+same-length-3 c = c .before .loop .inv .2
+
+returns : tie.Need-returns Inv-loop μ-loop
 returns c =
-    let a = c .before .before .before .before .before .before .before .before .args in
-    let room = roomOf (a .table .now) in
-    let came = c .before .before .before .next-message .ensures room in
-    let all = came-all _ _ (c .if1 .taken) came in
-    (ap {B = Changes} (λ (k : ℕ). record { levels = k }) (sym (changed-none RECORDS (a .table .now))), (all .0, all .1))
-
-levels-in-requires : tie.Need-levels-in-requires
-levels-in-requires c κs = whole _ (c .before .before .before .before .before .before .before .before .before .pre .0) .size
-
-apply-events-requires : tie.Need-apply-events-requires
-apply-events-requires c κs =
-    let came = c .before .before .before .before .before .before .before .next-message .ensures (roomOf []) in
-    let start = c .before .before .before .before .before .before .before .before .before .before .before .before in
-    (start .pre .0, came .within, start .pre .1, omega (arith, came .wide, start .pre .2))
-
-changed-from-requires : tie.Need-changed-from-requires
-changed-from-requires c κs =
-    let start = c .before .before .before .before .before .before .before .before .before .before .before .before .before .before .before .before .before .before in
-    let room = roomOf (start .args .table .now) in
-    let all = came-all _ _ refl (came-then _ _ (c .before .before .before .before .before .before .before .before .before .before .before .before .before .next-message .ensures room) (c .before .before .before .before .before .apply-events .ensures)) in
-    whole _ (ap roomOk (all .0) ∙ rooms-valid _ _ room (start .pre .0)) .size
-
-same-length-2 : tie.Need-same-length-2
-same-length-2 c = search needs
-
-same-length-3 : tie.Need-same-length-3
-same-length-3 c = search needs
-
-returns-2 : tie.Need-returns-2
-returns-2 c =
-    let a = c .before .before .before .before .before .before .before .before .before .before .before .before .before .before .before .before .before .before .before .args in
-    let room = roomOf (a .table .now) in
-    let count = c .changed-from .ensures (a .table .now) (c .before .before .before .before .before .before .before .before .before .levels-in .ensures) in
-    let all = came-all _ _ refl (came-then _ _ (c .before .before .before .before .before .before .before .before .before .before .before .before .before .before .next-message .ensures room) (c .before .before .before .before .before .before .apply-events .ensures)) in
-    (ap {B = Changes} (λ (k : ℕ). record { levels = k }) count, (all .0, all .1))
+    let now = c .before .loop in
+    remains-end (c .before .before .before .before .before .before .args .halves .now) (now .current) (now .i) (roomOf (now .table)) (now .events)
+    (now .answers) (c .loop-test .left)
+    ∙ now .inv .3
 
 pub heed-spec : {M : Type 1} → statement M
 heed-spec =
     tie.close
     (tie.spec
-    next-message-requires
+    Inv-loop
+    μ-loop
+    loop-holds
+    run-to-message-requires
+    place-of-requires
+    answer-stretch-requires
+    loop-less
+    loop-again
     same-length
-    returns
-    levels-in-requires
-    apply-events-requires
-    changed-from-requires
     same-length-2
     same-length-3
-    returns-2)
+    returns)

@@ -6,7 +6,7 @@ use native.Mathlib.Omega.{arith}
 use lib.ListN.{length, length-set}
 use borrow.Author.Needs.{needs}
 use Rattle.record.specs.Layout.{RECORDS}
-use Rattle.room.proofs.MainsLaws.{LevelsOf, levels-next}
+use Rattle.room.proofs.LevelsKept.{LevelsOf, levels-next}
 use Rattle.room.proofs.mains.levels_in.Statement.{statement}
 use Rattle.room.proofs.mains.levels_in.Tie as tie
 

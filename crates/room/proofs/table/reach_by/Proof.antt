@@ -1,7 +1,6 @@
 -- `reach_by` meets its contract: On, off, dim and bright leave a record that is not addressed, hail and status leave every record.
 use mathlib.Core.Path.{refl}
-use mathlib.Core.Bool.{true≢false}
-use Rattle.room.proofs.StillLaws.{uncalled, unlevelled, unlevelled-both}
+use Rattle.room.proofs.StillLaws.{unpassed, uncalled, unlevelled, unlevelled-both}
 use borrow.Author.Needs.{needs}
 use Rattle.room.proofs.table.reach_by.Statement.{statement}
 use Rattle.room.proofs.table.reach_by.Tie as tie
@@ -91,13 +90,13 @@ returns-4 : tie.Need-returns-4
 returns-4 c = rw (c .before .enum-told4 .given .1, c .reaching4 .ensures) (λ n r q. unlevelled-both _ _ _ _ (uncalled n r q))
 
 returns-5 : tie.Need-returns-5
-returns-5 c = rw (c .before .enum-told5 .given .1, c .reaching5 .ensures) (λ n r q. absurd (true≢false q))
+returns-5 c = rw (c .before .enum-told5 .given .1, c .reaching5 .ensures) (λ n r q. absurd (unpassed n r q))
 
 returns-6 : tie.Need-returns-6
-returns-6 c = rw (c .before .enum-told6 .given .1, c .reaching6 .ensures) (λ n r q. absurd (true≢false q))
+returns-6 c = rw (c .before .enum-told6 .given .1, c .reaching6 .ensures) (λ n r q. absurd (unpassed n r q))
 
 returns-7 : tie.Need-returns-7
-returns-7 c = rw (c .before .enum-told7 .given .1, c .reaching7 .ensures) (λ n r q. absurd (true≢false q))
+returns-7 c = rw (c .before .enum-told7 .given .1, c .reaching7 .ensures) (λ n r q. absurd (unpassed n r q))
 
 returns-8 : tie.Need-returns-8
 returns-8 c = rw (c .before .enum-told8 .given .1, c .reaching8 .ensures) (λ n r q. refl)

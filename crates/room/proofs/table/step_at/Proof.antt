@@ -5,14 +5,14 @@ use borrow.Author.Needs.{needs}
 use Rattle.room.proofs.table.step_at.Statement.{statement}
 use Rattle.room.proofs.table.step_at.Tie as tie
 
-mul-called : tie.Need-mul-called
-mul-called c = search needs
+mul-if1 : tie.Need-mul-if1
+mul-if1 c = search needs
 
-add-called : tie.Need-add-called
-add-called c = search needs
+add-if1 : tie.Need-add-if1
+add-if1 c = search needs
 
-slice-read-called : tie.Need-slice-read-called
-slice-read-called c = search needs
+slice-read-if1 : tie.Need-slice-read-if1
+slice-read-if1 c = search needs
 
 step-record-requires : tie.Need-step-record-requires
 step-record-requires c κs = search needs
@@ -26,17 +26,10 @@ returns c = search needs
 returns-2 : tie.Need-returns-2
 unfolding recordAt
 returns-2 c =
-    let start = c .before .before .before .before .before .before in
+    let start = c .before .before .before .before .before in
     kept _ _ _ (start .args .i) (start .args .t .now) (start .args .o) (start .pre .0) (start .pre .1) (start .pre .2) (c .if1 .left)
 
 pub step-at-spec : {M : Type 1} → statement M
 step-at-spec =
     tie.close
-    (tie.spec
-    mul-called
-    add-called
-    slice-read-called
-    step-record-requires
-    same-length
-    returns
-    returns-2)
+    (tie.spec mul-if1 add-if1 slice-read-if1 step-record-requires same-length returns returns-2)

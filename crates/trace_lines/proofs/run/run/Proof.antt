@@ -4,14 +4,14 @@ use mathlib.Core.Path.{_≡_, sym, subst, _∙_}
 use Prim.Native.Nat.{ℕ}
 use native.Mathlib.Omega.{arith}
 use lib.ListN.{length, length-replicate}
-use Rattle.trace_lines.specs.Trace.{atStart, Follows}
+use Rattle.trace_lines.specs.Trace.{traceStart, Follows}
 use Rattle.trace_lines.specs.declared.Progress.{Progress}
 use Rattle.trace_lines.proofs.TraceLaws.{follows-none, follows-then}
 use Rattle.trace_lines.proofs.run.run.Statement.{statement}
 use Rattle.trace_lines.proofs.run.run.Tie as tie
 
 abbrev Inv-loop : tie.InvT-loop
-Inv-loop input₀ out₀ p₀ turns₀ input out p turns = (length input ≡ 65536) × Follows atStart p
+Inv-loop input₀ out₀ p₀ turns₀ input out p turns = (length input ≡ 65536) × Follows traceStart p
 
 abbrev μ-loop : tie.MeasureT-loop
 μ-loop input₀ out₀ p₀ turns₀ input out p turns = turns
@@ -20,7 +20,7 @@ begin-requires : tie.Need-begin-requires Inv-loop μ-loop
 begin-requires c κs = tt
 
 loop-holds : tie.Need-loop-holds Inv-loop μ-loop
-loop-holds c = (length-replicate {A = ℕ} 65536 0, subst (λ (p : Progress). Follows atStart p) (sym (c .begin .ensures)) (follows-none atStart))
+loop-holds c = (length-replicate {A = ℕ} 65536 0, subst (λ (p : Progress). Follows traceStart p) (sym (c .begin .ensures)) (follows-none traceStart))
 
 slice-aggregate-read-piece : tie.Need-slice-aggregate-read-piece Inv-loop μ-loop
 slice-aggregate-read-piece c = sym (c .before .before .loop .inv .0)
