@@ -38,7 +38,7 @@ enum x10_number {
     X10_NOT_CARRIED = 4,   /* a message that tables do not carry */
     X10_HALF = 5,          /* a half-cycle that is not 0 or 1 */
     X10_STATE = 6,         /* no receiver, or one in no state that there is; no bench of 1 to 16 stations */
-    X10_DRAW = 7,          /* a draw that is not 8, 9 or 10 */
+    X10_DRAW = 7,          /* a draw that is not 8, 9 or 10, or not a draw for each */
     X10_SHORT = 9,         /* a lent buffer has not the length that is asked for */
     X10_PAIR = 10,         /* an event: both half-cycles of a pair were equal */
     X10_UNSUPPORTED = 11,  /* an event: code 10, 11 or 12 with function bit 1 */
@@ -128,7 +128,7 @@ uint64_t x10_apply(uint8_t *table, size_t len, uint8_t kind, uint8_t house, uint
  * marks[2 * j] * 256 + marks[2 * j + 1] to the stations that are done in it, station i in bit i; bytes
  * of marks beyond 2 * l_len stay. Count: calls not refused. Refusals of the whole: 2, where any whole
  * five bytes of messages are no message; 6, where n is 0 or above 16 or m_len is not 5 * n; 7, for a
- * draw of loads; 9, where d_len is not n * l_len or k_len is below 2 * l_len. */
+ * draw of loads, or where d_len is not n * l_len; 9, where k_len is below 2 * l_len. */
 uint64_t x10_bench_run(const uint8_t *messages, size_t m_len, const uint8_t *loads, size_t n,
                        const uint8_t *draws, size_t d_len, uint8_t *lines, size_t l_len,
                        uint8_t *marks, size_t k_len);

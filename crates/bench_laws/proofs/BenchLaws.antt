@@ -3,30 +3,32 @@
 --     ok-all                       the n stations are right as each of them is
 --     turnAt, turned               each station after the line's half-cycle, and its mark
 --     line-some                    the line is 0, or what some station sends
---     Turns, bench-turns           a call that is not refused, as these say
---     bench-number, bench-refuses  a call that its draws refuse
-use mathlib.Core.Path.{_≡_, refl, ap, _∙_}
+--     Turns, Called, called        a call is refused and changes nothing, or turns every station, as these say
+--     bench-number, bench-refuses  valid stations are refused by their draws alone
+use mathlib.Core.Path.{_≡_, refl, sym, ap, subst, _∙_}
 use mathlib.Core.Logic.{_⊎_, inl, inr}
 use mathlib.Core.Bool.{Bool, true, false, _&&_}
-use mathlib.Core.List.{List, [], _∷_}
-use Prim.Native.Nat.{ℕ, zero, suc, _-_, _≤_, _<_, max, zero-le, suc-le-suc}
+use mathlib.Core.List.{List, [], _∷_, zipWith}
+use Prim.Native.Nat.{ℕ, zero, suc, _≤_, _<_, max, zero-le, suc-le-suc}
 use native.Mathlib.Nat.{le-of-suc-le-suc, not-suc-le-zero}
 use native.Mathlib.Decide.{decLe}
 use native.Mathlib.Omega.{arith}
-use borrow.Author.Tests.{le-leb}
-use lib.Dec.{leb}
-use lib.ListN.{length, getD, take, drop, replicate, List·getD-append}
-use lib.Seq.{length-take-le, length-front, drop-at, getD-take}
+use borrow.Author.Tests.{le-leb, eq-eqb}
+use lib.Dec.{eqb, leb}
+use lib.ListN.{length, getD}
 use Rattle.ground.specs.Choice.{pick}
+use Rattle.ground.specs.Refusals.{judged}
+use Rattle.ground.specs.declared.Refusal.the-variants as refusal
 use Rattle.station.specs.declared.Station.{Station}
 use Rattle.station.specs.declared.Turn.{Turn}
 use Rattle.station.specs.Stations.{emptyStation, stationOk, drawOk, sendsOf, turnOf, isDone}
-use Rattle.station.specs.Benches.{benchReport, mostStations, lineOf, moveAll, doneAll, stationsOk, drawsOk, turnAll, benchRefused, benchOf}
+use Rattle.station.specs.Benches.{benchReport, lineOf, moveAll, doneAll, stationsOk, drawsOk, turnAll, benchRefused, benchOn}
 use Rattle.station.specs.declared.bench.BenchAnswer.the-variants.{Line}
-use Rattle.ground.specs.Refusals.{judged}
-use Rattle.ground.specs.declared.Refusal.the-variants as refusal
 use Rattle.station.specs.declared.bench.BenchTurn.{BenchTurn}
-use Rattle.station.proofs.SlotLaws.{draw-at, line-at, length-moved, length-done}
+use Rattle.station.proofs.SlotLaws.{ok-in, draw-in, line-in, line-below, length-moved}
+use Rattle.station.proofs.BenchCases.{Judged, refuses, turns, bench-judged}
+use Rattle.bench_run.specs.Calls.{Moment, nextMoment, call}
+use Rattle.bench_laws.specs.Demand3.{drawnFor}
 
 -- ---- lists of stations
 
@@ -42,7 +44,7 @@ module _ (line : ℕ) where
 
   turned : (ss : List Station) (ds : List ℕ) (i : ℕ) → i < length ss → i < length ds
       → (getD (moveAll line ss ds) i emptyStation ≡ turnAt ss ds i .next) × (getD (doneAll line ss ds) i false ≡ isDone (turnAt ss ds i .answer))
-  unfolding moveAll doneAll
+  unfolding moveAll doneAll zipWith
   turned [] ds i h k = absurd (not-suc-le-zero h)
   turned (s ∷ ss) [] i h k = absurd (not-suc-le-zero k)
   turned (s ∷ ss) (d ∷ ds) zero h k = (refl, refl)
@@ -66,80 +68,77 @@ line-some (s ∷ ss) = go (decLe (sendsOf s) (lineOf ss)) (line-some ss)
 -- ---- one call
 
 -- what a call that is not refused gives and leaves, h being the line's half-cycle
-pub record Turns (n : ℕ) (slots : List Station) (draws : List ℕ) (h : ℕ) (t : BenchTurn) : Type 0 where
+pub record Turns (n : ℕ) (stations : List Station) (draws : List ℕ) (h : ℕ) (t : BenchTurn) : Type 0 where
   pub answers : t .answer ≡ Line h
-  pub same : length (t .slots) ≡ length slots
-  pub beyond : drop n (t .slots) ≡ drop n slots
-  pub next : (i : ℕ) → i < n → getD (t .slots) i emptyStation ≡ turnAt h slots draws i .next
-  pub says : (i : ℕ) → i < n → getD (t .done) i false ≡ isDone (turnAt h slots draws i .answer)
+  pub same : length (t .slots) ≡ length stations
+  pub next : (i : ℕ) → i < n → getD (t .slots) i emptyStation ≡ turnAt h stations draws i .next
+  pub says : (i : ℕ) → i < n → getD (t .done) i false ≡ isDone (turnAt h stations draws i .answer)
+  pub ok : (i : ℕ) → i < n → stationOk (getD stations i emptyStation) ≡ true
   pub draw : (i : ℕ) → i < n → drawOk (getD draws i 0) ≡ true
-  pub above : (i : ℕ) → i < n → sendsOf (getD slots i emptyStation) ≤ h
-  pub some : (h ≡ 0) ⊎ ((i : ℕ) × (i < n) × (sendsOf (getD slots i emptyStation) ≡ h))
+  pub above : (i : ℕ) → i < n → sendsOf (getD stations i emptyStation) ≤ h
+  pub some : (h ≡ 0) ⊎ ((i : ℕ) × (i < n) × (sendsOf (getD stations i emptyStation) ≡ h))
+  pub low : h ≤ 1
 
-module _ (n : ℕ) (slots : List Station) (draws : List ℕ) (low : 1 ≤ n) (high : n ≤ mostStations) (room : n ≤ length slots)
-    (ok : (i : ℕ) → i < n → stationOk (getD slots i emptyStation) ≡ true) where
-  count : length (take n slots) ≡ n
-  count = length-take-le n slots room
+module _ (n : ℕ) (stations : List Station) (draws : List ℕ) (many : length stations ≡ n) where
+  all-turn : stationsOk stations ≡ true → length draws ≡ n → drawsOk draws ≡ true → Turns n stations draws (lineOf stations) (turnAll stations draws)
+  unfolding turnAll
+  all-turn ok drawn fine =
+      let each : length draws ≡ length stations = drawn ∙ sym many in
+      record {
+        answers = refl;
+        same = length-moved (lineOf stations) stations draws each;
+        next = λ i h. turned (lineOf stations) stations draws i (omega arith) (omega arith) .0;
+        says = λ i h. turned (lineOf stations) stations draws i (omega arith) (omega arith) .1;
+        ok = λ i h. ok-in stations i emptyStation ok (omega arith);
+        draw = λ i h. draw-in draws i fine (omega arith);
+        above = λ i h. line-in stations i emptyStation (omega arith);
+        some =
+            subst (λ (k : ℕ). (lineOf stations ≡ 0) ⊎ ((i : ℕ) × (i < k) × (sendsOf (getD stations i emptyStation) ≡ lineOf stations))) many
+            (line-some stations);
+        low = line-below stations;
+      }
 
-  fine-count : (leb 1 n && leb n mostStations) ≡ true
-  fine-count = simp (le-leb 1 n low, le-leb n mostStations high)
+-- a call is refused and changes nothing, or turns every station
+pub data Called (most n : ℕ) (now : Moment) (draws : List ℕ) : Type 0 where
+  refused : call most n now draws ≡ now → Called most n now draws
+  taken : (h : ℕ) (t : BenchTurn) → Turns n (now .stations) draws h t → call most n now draws ≡ nextMoment now t (Line h) → Called most n now draws
 
-  fine-states : stationsOk (take n slots) ≡ true
-  fine-states = ok-all (take n slots) (λ i h. let k : i < n = omega (arith, count) in rw (getD-take n slots i emptyStation k) (ok i k))
-
-  pub bench-refuses : drawsOk (take n draws) ≡ false → benchOf n slots draws ≡ benchRefused slots refusal.Draw
-  unfolding benchOf judged
-  bench-refuses e = simp (fine-count, fine-states, e)
-
-  pub bench-number : benchReport (benchOf n slots draws .answer) .number ≡ pick (drawsOk (take n draws)) 0 7
-  unfolding benchOf turnAll judged
-  bench-number = go (drawsOk (take n draws)) refl
+module _ (most n : ℕ) (now : Moment) (draws : List ℕ) (many : length (now .stations) ≡ n) where
+  pub called : Called most n now draws
+  unfolding call turnAll
+  called = go (bench-judged most n (now .stations) draws) refl
     where
-      go : (b : Bool) → drawsOk (take n draws) ≡ b → benchReport (benchOf n slots draws .answer) .number ≡ pick (drawsOk (take n draws)) 0 7
-      go true e = simp (fine-count, fine-states, e)
-      go false e = simp (fine-count, fine-states, e)
+      go : {o : BenchTurn} → Judged most n (now .stations) draws o → benchOn most n (now .stations) draws ≡ o → Called most n now draws
+      go (refuses why) e = refused (ap (λ (t : BenchTurn). nextMoment now t (t .answer)) e)
+      go (turns p m q r s) e =
+          taken (lineOf (now .stations)) (turnAll (now .stations) draws) (all-turn n (now .stations) draws many q r s)
+          (ap (λ (t : BenchTurn). nextMoment now t (t .answer)) e)
 
-  module _ (enough : n ≤ length draws) (fine : drawsOk (take n draws) ≡ true) where
-    drawn : length (take n draws) ≡ n
-    drawn = length-take-le n draws enough
+-- valid stations are refused by their draws alone
+module _ (most n : ℕ) (stations : List Station) (draws : List ℕ) (some : 1 ≤ n) (allowed : n ≤ most) (many : length stations ≡ n)
+    (ok : (i : ℕ) → i < n → stationOk (getD stations i emptyStation) ≡ true) where
+  fine-count : (leb 1 n && leb n most) ≡ true
+  fine-count = simp (le-leb 1 n some, le-leb n most allowed)
 
-    line : ℕ
-    line = lineOf (take n slots)
+  fine-states : stationsOk stations ≡ true
+  fine-states = ok-all stations (λ i h. ok i (omega arith))
 
-    some-sends : (line ≡ 0) ⊎ ((i : ℕ) × (i < length (take n slots)) × (sendsOf (getD (take n slots) i emptyStation) ≡ line))
-        → (line ≡ 0) ⊎ ((i : ℕ) × (i < n) × (sendsOf (getD slots i emptyStation) ≡ line))
-    some-sends (inl e) = inl e
-    some-sends (inr (i, h, e)) =
-        let k : i < n = omega (arith, count) in
-        inr (i, k, rw (getD-take n slots i emptyStation k) at e)
+  by-draws : benchOn most n stations draws ≡ pick (drawnFor n draws) (turnAll stations draws) (benchRefused stations refusal.Draw)
+  unfolding benchOn judged
+  by-draws = rw (fine-count, eq-eqb (length stations) n many, fine-states) (go (eqb (length draws) n))
+    where
+      go : (b : Bool) → pick b (pick (drawsOk draws) (turnAll stations draws) (benchRefused stations refusal.Draw)) (benchRefused stations refusal.Draw)
+          ≡ pick (b && drawsOk draws) (turnAll stations draws) (benchRefused stations refusal.Draw)
+      go true = refl
+      go false = refl
 
-    taken-turn : (i : ℕ) → i < n → turnAt line (take n slots) (take n draws) i ≡ turnAt line slots draws i
-    taken-turn i h = rw (getD-take n slots i emptyStation h, getD-take n draws i 0 h)
+  pub bench-refuses : drawnFor n draws ≡ false → benchOn most n stations draws ≡ benchRefused stations refusal.Draw
+  bench-refuses e = by-draws ∙ rw e
 
-    all-turn : Turns n slots draws line (turnAll n slots draws)
-    unfolding turnAll line
-    all-turn =
-        let moves : List Station = moveAll line (take n slots) (take n draws) in
-        let marks : List Bool = doneAll line (take n slots) (take n draws) in
-        let many : length moves ≡ length (take n slots) = length-moved line (take n slots) (take n draws) in
-        let each : length marks ≡ length (take n slots) = length-done line (take n slots) (take n draws) in
-        record {
-          answers = refl;
-          same = length-front slots moves n many;
-          beyond = drop-at moves (drop n slots) n (many ∙ count);
-          next = λ i h.
-              List·getD-append moves (drop n slots) emptyStation i (omega (arith, many, count))
-              ∙ turned line (take n slots) (take n draws) i (omega (arith, count)) (omega (arith, drawn)) .0
-              ∙ ap (λ (t : Turn). t .next) (taken-turn i h);
-          says = λ i h.
-              List·getD-append marks (replicate (length slots - n) false) false i (omega (arith, each, count))
-              ∙ turned line (take n slots) (take n draws) i (omega (arith, count)) (omega (arith, drawn)) .1
-              ∙ ap (λ (t : Turn). isDone (t .answer)) (taken-turn i h);
-          draw = λ i h. draw-at n draws enough i h fine;
-          above = λ i h. line-at n slots room i h emptyStation;
-          some = some-sends (line-some (take n slots));
-        }
-
-    pub bench-turns : (h : ℕ) × Turns n slots draws h (benchOf n slots draws)
-    unfolding benchOf judged
-    bench-turns = (line, simp (fine-count, fine-states, fine) all-turn)
+  pub bench-number : benchReport (benchOn most n stations draws .answer) .number ≡ pick (drawnFor n draws) 0 7
+  unfolding turnAll
+  bench-number = ap (λ (t : BenchTurn). benchReport (t .answer) .number) by-draws ∙ go (drawnFor n draws)
+    where
+      go : (b : Bool) → benchReport (pick b (turnAll stations draws) (benchRefused stations refusal.Draw) .answer) .number ≡ pick b 0 7
+      go true = refl
+      go false = refl

@@ -1,7 +1,7 @@
 -- The bound is reached by two stations that draw the longest wait each time and send the longest bursts, whose last half-cycle is 1: after 267
 -- calls the one with the smaller frame has yet to say DONE. Computed, call by call.
 use mathlib.Core.Path.{_≡_, refl}
-use mathlib.Core.List.{List, [], _∷_}
+use mathlib.Core.List.{List, [], _∷_, zipWith}
 use Prim.Native.Nat.{ℕ, zero, suc, _<_}
 use native.Mathlib.Omega.{arith}
 use lib.ListN.{getD, replicate}
@@ -12,16 +12,16 @@ use Rattle.burst.specs.Frames.{bitsOf, pairsOf, frameOf, burstOf}
 use Rattle.station.specs.Stations.{emptyStation, stationOk, loadOf, loaded, sendsOf, turnOf}
 use Rattle.station.specs.declared.Station.{Station}
 use Rattle.station.specs.declared.LoadAnswer.the-variants.{Loaded}
-use Rattle.station.specs.Benches.{lineOf, moveAll, doneAll, stationsOk, drawsOk, turnAll, benchOf}
+use Rattle.station.specs.Benches.{lineOf, moveAll, doneAll, stationsOk, drawsOk, turnAll, benchOn}
 use Rattle.ground.specs.Refusals.{judged}
-use Rattle.bench_run.specs.Calls.{call, run, Drawn}
-use Rattle.bench_laws.specs.Bound.{BoundIsReached}
+use Rattle.bench_run.specs.Calls.{call, run}
+use Rattle.bench_laws.specs.Bound.{TwoReachTheBound}
 
 abbrev message : ℕ → Message
 message i = Extended i 0 0 0
 
-abbrev slots : List Station
-slots = loaded (message 0) 10 ∷ loaded (message 1) 10 ∷ []
+abbrev stations : List Station
+stations = loaded (message 0) 10 ∷ loaded (message 1) 10 ∷ []
 
 abbrev calls : ℕ → List (List ℕ)
 calls k = replicate k (10 ∷ 10 ∷ [])
@@ -32,33 +32,28 @@ accepted zero l = refl
 accepted (suc zero) l = refl
 accepted (suc (suc i)) l = absurd (omega arith)
 
-just-loaded : (i : ℕ) → i < 2 → getD slots i emptyStation ≡ loadOf emptyStation (message i) 10 .next
+just-loaded : (i : ℕ) → i < 2 → getD stations i emptyStation ≡ loadOf emptyStation (message i) 10 .next
 unfolding loadOf stationOk judged
 just-loaded zero l = refl
 just-loaded (suc zero) l = refl
 just-loaded (suc (suc i)) l = absurd (omega arith)
 
-drawn : (k : ℕ) → Drawn 2 (calls k)
-drawn zero = tt
-drawn (suc k) = (omega arith, drawn k)
-
-pub bound-is-reached : BoundIsReached
-unfolding codeOf lineCodes bitsOf pairsOf frameOf burstOf stationOk sendsOf turnOf lineOf moveAll doneAll stationsOk drawsOk turnAll benchOf judged call run
-bound-is-reached = record {
-  n = 2;
+pub two-reach-the-bound : TwoReachTheBound
+unfolding codeOf lineCodes bitsOf pairsOf frameOf burstOf stationOk sendsOf turnOf lineOf zipWith moveAll doneAll stationsOk drawsOk turnAll benchOn judged
+    call run
+two-reach-the-bound = record {
+  most = 16;
   message = message;
   draw = λ i. 10;
-  slots = slots;
+  stations = stations;
   start = record {
     some = omega arith;
-    most = omega arith;
-    room = omega arith;
-    bytes = λ i l. (omega arith, omega arith);
+    allowed = omega arith;
+    many = refl;
     accepted = accepted;
     loaded = just-loaded;
   };
   calls = calls 267;
-  drawn = drawn 267;
   fewer = refl;
   station = 0;
   below = omega arith;

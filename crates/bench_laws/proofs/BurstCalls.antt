@@ -12,7 +12,7 @@ use native.Mathlib.Decide.{ℕ-discrete}
 use native.Mathlib.Omega.{arith}
 use lib.ListN.{length, getD, take, length-append}
 use lib.Seq.{take-length}
-use Rattle.message.specs.Messages.{messageOk, BytesOk}
+use Rattle.message.specs.Messages.{messageOk}
 use Rattle.message.specs.declared.Message.{Message}
 use Rattle.burst.specs.Frames.{burstOf, burstLength}
 use Rattle.burst.proofs.FrameLaws.{burst-length}
@@ -37,12 +37,13 @@ use Rattle.bench_laws.proofs.StationStates.{Front, Follows, front-more,
 use Rattle.bench_laws.proofs.StationStates.{outcome, ends-here, sends-still, Settles, keeps-sending, is-over, done-whole}
 use Rattle.bench_laws.proofs.PartHeard.{end-repeats, gives-this, says-cleanly, part-next, part-events, part-event, sent-and-heard}
 use Rattle.bench_laws.proofs.Tally.{total-grows, total-rises}
+use Rattle.bench_laws.proofs.InTurn.{Given, given-first, given-next, given-over}
 use Rattle.bench_laws.proofs.Moments.{slot, newest, Bench, Kept, Quiet, Underway, Sender, State, quiet, busy, keeps, going-right, quiet-call}
 
-module _ (n : ℕ) (message : ℕ → Message) (B : Bench n message) (start : List Station) (now : Moment) (draws : List ℕ) where
+module _ (n : ℕ) (message : ℕ → Message) (B : Bench n message) (now : Moment) (draws : List ℕ) where
   -- ---- a burst on the line
 
-  module _ (h : ℕ) (low : h ≤ 1) (t : BenchTurn) (T : Turns n (now .slots) draws h t) (z : ℕ) (r : Receiver) (sent : List ℕ)
+  module _ (h : ℕ) (t : BenchTurn) (T : Turns n (now .stations) draws h t) (z : ℕ) (r : Receiver) (sent : List ℕ)
       (R : Underway n message z r sent now) (F : Sender n message (countedBy z sent) sent now)
       (same : getD (burstOf (message (F .who))) (length sent) 0 ≡ h) where
     -- the message of a station that sends what is heard
@@ -52,9 +53,6 @@ module _ (n : ℕ) (message : ℕ → Message) (B : Bench n message) (start : Li
     valid : messageOk m ≡ true
     valid = B .valid (F .who) (F .below)
 
-    bytes : BytesOk m
-    bytes = B .bytes (F .who) (F .below)
-
     abbrev longer : List ℕ
     longer = sent ++ h ∷ []
 
@@ -62,7 +60,7 @@ module _ (n : ℕ) (message : ℕ → Message) (B : Bench n message) (start : Li
     length-longer = length-append sent (h ∷ [])
 
     abbrev turn : ℕ → Turn
-    turn i = turnAt h (now .slots) draws i
+    turn i = turnAt h (now .stations) draws i
 
     abbrev said : Event
     said = newest now h t .event
@@ -75,7 +73,7 @@ module _ (n : ℕ) (message : ℕ → Message) (B : Bench n message) (start : Li
     out : (i : ℕ) → i < n → Outcome (message i) longer (countedBy z longer) (slot now i) (turn i)
     out i l =
         subst (λ (c : ℕ). Outcome (message i) longer c (slot now i) (turn i)) (sym (counted-append z sent (h ∷ [])))
-        (outcome (message i) (B .valid i l) sent (countedBy z sent) (slot now i) (getD draws i 0) (T .draw i l) h low (T .above i l)
+        (outcome (message i) (B .valid i l) sent (countedBy z sent) (slot now i) (getD draws i 0) (T .draw i l) h (T .low) (T .above i l)
         (λ e. omega (arith, few e)) (R .stations i l))
 
     -- ---- the receiver, and the answers
@@ -85,7 +83,7 @@ module _ (n : ℕ) (message : ℕ → Message) (B : Bench n message) (start : Li
     event i l f k =
         let x = front-less (message i) sent h f k in
         ap (λ (r : Receiver). stepOf r h .event) (R .receiver)
-        ∙ part-event (message i) (B .valid i l) (B .bytes i l) r (R .ready) sent h (x .0) (x .1)
+        ∙ part-event (message i) (B .valid i l) r (R .ready) sent h (x .0) (x .1)
 
     ours : Front m longer
     ours = front-more m sent h (F .sends .follows) same
@@ -128,15 +126,21 @@ module _ (n : ℕ) (message : ℕ → Message) (B : Bench n message) (start : Li
 
       still : Sending m longer (countedBy z longer) (turn (F .who) .next)
       still =
-          sends-still m valid sent (countedBy z sent) (slot now (F .who)) h (getD draws (F .who) 0) low (T .draw (F .who) (F .below)) (F .sends) same p
+          sends-still m valid sent (countedBy z sent) (slot now (F .who)) h (getD draws (F .who) 0) (T .low) (T .draw (F .who) (F .below)) (F .sends) same p
           (countedBy z longer)
 
-      burst-goes-on : Kept n message start now
-          → Kept n message start (nextMoment now t (Line h)) × Underway n message z r longer (nextMoment now t (Line h))
+      given-on : (i : ℕ) → i < n → Follows (message i) longer → Given (message i) (length longer) (newest now h t ∷ now .past)
+      given-on i l f =
+          let short : length sent < burstLength (message i) = omega (arith, length-longer, f .more) in
+          given-next (message i) (now .past) (newest now h t) (length sent) (event i l (f .front) short)
+          (R .given i l (front-less (message i) sent h (f .front) short .0)) (length longer) length-longer (f .more)
+
+      burst-goes-on : Kept n message now
+          → Kept n message (nextMoment now t (Line h)) × Underway n message z r longer (nextMoment now t (Line h))
           × Sender n message (countedBy z longer) longer (nextMoment now t (Line h))
       burst-goes-on K = (
-        keeps n message start now draws h t T K (λ i l. going i l .0 .empties)
-            (going-right n message start now draws h t T (λ i l. going i l .1) no-repeat gives cleanly),
+        keeps n message now draws h t T K (λ i l. going i l .0 .empties)
+            (going-right n message now draws h t T (λ i l. going i l .1) no-repeat gives cleanly),
         record {
           before = R .before;
           ready = R .ready;
@@ -145,6 +149,7 @@ module _ (n : ℕ) (message : ℕ → Message) (B : Bench n message) (start : Li
           lines = next-lines;
           events = next-events;
           bound = omega (arith, R .bound, total-grows n (newest now h t) (now .past), length-longer);
+          given = given-on;
         },
         record {
           who = F .who;
@@ -174,12 +179,12 @@ module _ (n : ℕ) (message : ℕ → Message) (B : Bench n message) (start : Li
       our-done =
           T .says (F .who) (F .below)
           ∙ done-of
-          (ends-here m valid sent (countedBy z sent) (slot now (F .who)) h (getD draws (F .who) 0) low (T .draw (F .who) (F .below)) (F .sends) same p)
+          (ends-here m valid sent (countedBy z sent) (slot now (F .who)) h (getD draws (F .who) 0) (T .low) (T .draw (F .who) (F .below)) (F .sends) same p)
 
       all-heard : (i : ℕ) → i < n → SaysDone i (newest now h t) → SentAndHeard (message i) (newest now h t ∷ now .past)
       all-heard i l d =
           let e : burstOf (message i) ≡ longer = done-whole (out i l) (sym (T .says i l) ∙ d) in
-          sent-and-heard (newest now h t ∷ now .past) (R .before) (message i) (B .valid i l) (B .bytes i l) r (R .ready)
+          sent-and-heard (newest now h t ∷ now .past) (R .before) (message i) (B .valid i l) r (R .ready)
           (next-lines ∙ ap (λ (b : List ℕ). reverseAux b (linesOf (R .before))) (sym e))
           (next-events ∙ ap (λ (b : List ℕ). reverseAux (eventsOf r b) (eventsIn (R .before))) (sym e))
 
@@ -191,51 +196,53 @@ module _ (n : ℕ) (message : ℕ → Message) (B : Bench n message) (start : Li
           go zero f = omega (arith, f refl)
           go (suc h) f = omega arith
 
-      burst-over : Kept n message start now
-          → Kept n message start (nextMoment now t (Line h)) × Quiet n message (countedBy z longer) (nextMoment now t (Line h))
+      burst-over : Kept n message now
+          → Kept n message (nextMoment now t (Line h)) × Quiet n message (countedBy z longer) (nextMoment now t (Line h))
       unfolding standsAt
       burst-over K = (
-        keeps n message start now draws h t T K (λ i l. over i l .empties)
+        keeps n message now draws h t T K (λ i l. over i l .empties)
             (record { done = all-heard; repeats = (λ e. (F .who, F .below, our-done), λ d. repeat); gives = gives; clean = cleanly }),
         record {
           heard = 0;
           rests =
-              subst (Rests 0) (ap (receiverAfter r) (take-length (burstOf m) ∙ our-burst) ∙ sym next-receiver) (stands-last m valid bytes r (R .ready));
+              subst (Rests 0) (ap (receiverAfter r) (take-length (burstOf m) ∙ our-burst) ∙ sym next-receiver) (stands-last m valid r (R .ready));
           near = few-clear;
           stations = λ i l. subst (λ (s : Station). Stands (message i) [] (countedBy z longer) s) (sym (T .next i l)) (over i l .stands);
           bound = λ i l v.
               omega (arith, R .bound, total-rises n (newest now h t) (now .past) (F .who) (F .below) our-done, burst-most m);
+          equal =
+              given-over m (now .past) (newest now h t) (length sent) our-event (R .given (F .who) (F .below) (F .sends .follows)) (omega arith);
         },
       )
 
   -- ---- any call that is not refused
 
-  module _ (t : BenchTurn) (K : Kept n message start now) where
+  module _ (t : BenchTurn) (K : Kept n message now) where
     abbrev Next : ℕ → Type 0
-    Next h = Kept n message start (nextMoment now t (Line h)) × State n message (nextMoment now t (Line h))
+    Next h = Kept n message (nextMoment now t (Line h)) × State n message (nextMoment now t (Line h))
 
-    burst-next : (h : ℕ) → h ≤ 1 → Turns n (now .slots) draws h t → (z : ℕ) (r : Receiver) (sent : List ℕ) → Underway n message z r sent now
+    burst-next : (h : ℕ) → Turns n (now .stations) draws h t → (z : ℕ) (r : Receiver) (sent : List ℕ) → Underway n message z r sent now
         → (F : Sender n message (countedBy z sent) sent now) → getD (burstOf (message (F .who))) (length sent) 0 ≡ h → Next h
-    burst-next h low T z r sent R F same = go (ℕ-discrete (length sent + 1) (burstLength (message (F .who))))
+    burst-next h T z r sent R F same = go (ℕ-discrete (length sent + 1) (burstLength (message (F .who))))
       where
         go : Dec (length sent + 1 ≡ burstLength (message (F .who))) → Next h
         go (yes p) =
-            let q = burst-over h low t T z r sent R F same p K in
+            let q = burst-over h t T z r sent R F same p K in
             (q .0, quiet (countedBy z (sent ++ h ∷ [])) (q .1))
         go (no p) =
-            let q = burst-goes-on h low t T z r sent R F same p K in
+            let q = burst-goes-on h t T z r sent R F same p K in
             (q .0, busy z r (sent ++ h ∷ []) (q .1) (q .2))
 
     -- a 1 on the line is sent by some station
-    one-heard : (h : ℕ) → suc h ≤ 1 → Turns n (now .slots) draws (suc h) t → (z : ℕ) (r : Receiver) (sent : List ℕ)
+    one-heard : (h : ℕ) → Turns n (now .stations) draws (suc h) t → (z : ℕ) (r : Receiver) (sent : List ℕ)
         → Underway n message z r sent now → Next (suc h)
-    one-heard h low T z r sent R = go (T .some)
+    one-heard h T z r sent R = go (T .some)
       where
         go : (suc h ≡ 0) ⊎ ((i : ℕ) × (i < n) × (sendsOf (slot now i) ≡ suc h)) → Next (suc h)
         go (inl e) = absurd (omega arith)
         go (inr (i, l, e)) =
             let x = who-sends (message i) (B .valid i l) sent (countedBy z sent) (slot now i) (R .stations i l) (omega arith) in
-            burst-next (suc h) low T z r sent R (record { who = i; below = l; sends = x })
+            burst-next (suc h) T z r sent R (record { who = i; below = l; sends = x })
             (sym (sending-half (message i) (B .valid i l) sent (countedBy z sent) (slot now i) x) ∙ e)
 
     -- a quiet line on which a burst begins
@@ -252,21 +259,22 @@ module _ (n : ℕ) (message : ℕ → Message) (B : Bench n message) (start : Li
           lines = refl;
           events = refl;
           bound = omega (arith, Q .bound i l (ap vacant (x .is)));
+          given = λ i l f. given-first (message i) (now .past) (Q .equal);
         }
 
-    quiet-next : (c : ℕ) → Quiet n message c now → (h : ℕ) → h ≤ 1 → Turns n (now .slots) draws h t → Next h
-    quiet-next c Q zero low T = let q = quiet-call n message B start now draws t T c Q K in (q .0, quiet (c + 1) (q .1))
-    quiet-next c Q (suc h) low T = go (T .some)
+    quiet-next : (c : ℕ) → Quiet n message c now → (h : ℕ) → Turns n (now .stations) draws h t → Next h
+    quiet-next c Q zero T = let q = quiet-call n message B now draws t T c Q K in (q .0, quiet (c + 1) (q .1))
+    quiet-next c Q (suc h) T = go (T .some)
       where
         go : (suc h ≡ 0) ⊎ ((i : ℕ) × (i < n) × (sendsOf (slot now i) ≡ suc h)) → Next (suc h)
         go (inl e) = absurd (omega arith)
         go (inr (i, l, e)) =
             let x = who-sends (message i) (B .valid i l) [] c (slot now i) (Q .stations i l) (omega arith) in
-            one-heard h low T c (now .receiver) [] (begins c Q i l x)
+            one-heard h T c (now .receiver) [] (begins c Q i l x)
 
-    pub next-state : State n message now → (h : ℕ) → h ≤ 1 → Turns n (now .slots) draws h t → Next h
-    next-state (quiet c Q) h low T = quiet-next c Q h low T
-    next-state (busy z r sent R F) zero low T =
+    pub next-state : State n message now → (h : ℕ) → Turns n (now .stations) draws h t → Next h
+    next-state (quiet c Q) h T = quiet-next c Q h T
+    next-state (busy z r sent R F) zero T =
         let sends = sending-half (message (F .who)) (B .valid (F .who) (F .below)) sent (countedBy z sent) (slot now (F .who)) (F .sends) in
-        burst-next 0 low T z r sent R F (omega (arith, T .above (F .who) (F .below)))
-    next-state (busy z r sent R F) (suc h) low T = one-heard h low T z r sent R
+        burst-next 0 T z r sent R F (omega (arith, T .above (F .who) (F .below)))
+    next-state (busy z r sent R F) (suc h) T = one-heard h T z r sent R

@@ -15,7 +15,7 @@ use lib.Dec.{eqb, ltb}
 use lib.ListN.{length, getD, take, drop, take-append-drop, List·getD-append}
 use lib.Seq.{take-take, take-append-le, take-append-seam}
 use Rattle.ground.specs.Choice.{pick}
-use Rattle.message.specs.Messages.{messageOk, BytesOk}
+use Rattle.message.specs.Messages.{messageOk}
 use Rattle.message.specs.declared.Message.{Message}
 use Rattle.burst.specs.Frames.{frameOf, frameLength, burstOf}
 use Rattle.burst.proofs.FrameLaws.{frame-length, frames-one-to-one, no-frame-begins-another}
@@ -34,10 +34,10 @@ not-greater-at (x ∷ xs) (y ∷ ys) (suc k) t e l u =
     not-greater-at xs ys k (rw (eq-eqb x y (head-eq-of-cons-eq e)) at t) (tail-eq-of-cons-eq e) (le-of-suc-le-suc l) (le-of-suc-le-suc u)
 
 -- the bursts of a and b begin alike, as far as a's frame, which is no longer than b's
-same-message : (a b : Message) → messageOk a ≡ true → BytesOk a → messageOk b ≡ true → BytesOk b → frameLength a ≤ frameLength b
+same-message : (a b : Message) → messageOk a ≡ true → messageOk b ≡ true → frameLength a ≤ frameLength b
     → (k : ℕ) → frameLength a ≤ k → take k (burstOf a) ≡ take k (burstOf b) → a ≡ b
 unfolding burstOf
-same-message a b va ba vb bb shorter k far e =
+same-message a b va vb shorter k far e =
     let f : ℕ = frameLength a in
     let rest : List ℕ = drop f (frameOf b) in
     let front : take f (frameOf b) ≡ frameOf a =
@@ -45,10 +45,10 @@ same-message a b va ba vb bb shorter k far e =
     ∙ sym (take-take f k (burstOf b) far) ∙ ap (take f) (sym e) ∙ take-take f k (burstOf a) far
     ∙ ap (λ (n : ℕ). take n (burstOf a)) (sym (frame-length a)) ∙ take-append-seam (frameOf a) (frameOf a) in
     let split : frameOf b ≡ frameOf a ++ rest = sym (take-append-drop f (frameOf b)) ∙ ap (λ (l : List ℕ). l ++ rest) front in
-    let none : rest ≡ [] = no-frame-begins-another a b rest va ba bb split in
-    frames-one-to-one a b va ba vb bb (sym (split ∙ ap (λ (l : List ℕ). frameOf a ++ l) none ∙ append-nil (frameOf a)))
+    let none : rest ≡ [] = no-frame-begins-another a b rest va vb split in
+    frames-one-to-one a b va vb (sym (split ∙ ap (λ (l : List ℕ). frameOf a ++ l) none ∙ append-nil (frameOf a)))
 
-module _ (a b : Message) (va : messageOk a ≡ true) (ba : BytesOk a) (vb : messageOk b ≡ true) (bb : BytesOk b)
+module _ (a b : Message) (va : messageOk a ≡ true) (vb : messageOk b ≡ true)
     (sent : List ℕ) (fa : Front a sent) (fb : Front b sent) (lower : notGreater (frameOf a) (frameOf b) ≡ true) where
   abbrev k : ℕ
   k = length sent
@@ -79,6 +79,6 @@ module _ (a b : Message) (va : messageOk a ≡ true) (ba : BytesOk a) (vb : mess
             wb .1,
             not-greater-at (frameOf a) (frameOf b) k lower (wa .0 ∙ agree ∙ sym (wb .0)) (omega (arith, frame-length a)) (omega (arith, frame-length b)),
           )
-      go (yes x) y (yes z) = alike (same-message a b va ba vb bb z k x agree)
-      go (yes x) y (no z) = alike (sym (same-message b a vb bb va ba (omega arith) k (omega arith) (sym agree)))
-      go (no x) (yes y) d = alike (sym (same-message b a vb bb va ba (omega arith) k y (sym agree)))
+      go (yes x) y (yes z) = alike (same-message a b va vb z k x agree)
+      go (yes x) y (no z) = alike (sym (same-message b a vb va (omega arith) k (omega arith) (sym agree)))
+      go (no x) (yes y) d = alike (sym (same-message b a vb va (omega arith) k y (sym agree)))

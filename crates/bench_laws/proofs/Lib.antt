@@ -4,11 +4,15 @@ pub mod StationStates
 pub mod PartHeard
 pub mod BenchLaws
 pub mod Tally
+pub mod InTurn
 pub mod Moments
 pub mod BurstCalls
 pub mod WholeList
+pub mod Slots
 pub mod Compare
 pub mod Tracks
 pub mod StartTogether
+pub mod QuietLine
 pub mod BoundReached
 pub mod ExportedRun
+pub mod RunInBytes

@@ -1,40 +1,39 @@
 -- Between two calls the line is quiet or a burst is on it. Here: what that says, and that a call keeps it while none sends.
 --
---     Bench, Kept              what holds at every moment: the messages; the slots, the marks, the answers
+--     Bench, Kept              what holds at every moment: the messages; the stations, the marks, the answers
 --     Quiet, Underway, Sender, State     none sends; a burst is on the line; some station sends; the one or the other
---     Alike, alike, all-ok, line-half     what both say of the stations, and of the line
+--     Alike, alike, all-ok     what both say of the stations
 --     keeps, going-right       what a call keeps, and its answer where none is DONE
 --     quiet-call               a call while none sends
-use mathlib.Core.Logic.{_⊎_, inl, inr}
 use mathlib.Core.Path.{_≡_, sym, ap, subst, _∙_}
 use mathlib.Core.Bool.{true, false, false≢true}
 use mathlib.Core.List.{List, [], reverseAux}
 use Prim.Native.Nat.{ℕ, suc, _+_, _*_, _≤_, _<_}
 use native.Mathlib.Omega.{arith}
-use lib.ListN.{length, getD, drop}
-use Rattle.message.specs.Messages.{messageOk, BytesOk}
+use lib.ListN.{length, getD}
+use Rattle.message.specs.Messages.{messageOk}
 use Rattle.message.specs.declared.Message.{Message}
 use Rattle.receiver.specs.Receivers.{eventNumber, stepOf}
 use Rattle.receiver.specs.Hearing.{eventsOf, receiverAfter}
 use Rattle.receiver.specs.declared.Heard.{Heard}
 use Rattle.receiver.specs.declared.Receiver.{Receiver}
 use Rattle.receiver.specs.declared.Event.the-variants.{Nothing, Message as Gives, Repeat}
-use Rattle.station.specs.Stations.{emptyStation, stationOk, sendsOf, isDone}
+use Rattle.station.specs.Stations.{emptyStation, stationOk, isDone}
 use Rattle.station.specs.declared.Station.{Station}
 use Rattle.station.specs.declared.bench.BenchAnswer.the-variants.{Line}
 use Rattle.station.specs.declared.bench.BenchTurn.{BenchTurn}
 use Rattle.receiver_laws.specs.Whole.{Ready}
 use Rattle.receiver_laws.proofs.Rests.{Rests, rests-step, rests-next}
 use Rattle.bench_run.specs.Calls.{Answered, Moment, linesOf, eventsIn, nextMoment}
-use Rattle.bench_laws.specs.Demand3.{callsEach, timesDone, Right, AllRight}
+use Rattle.bench_laws.specs.Demand3.{callsEach, timesDone, timesGiven, timesRepeated, Right, AllRight}
 use Rattle.bench_laws.proofs.BurstLaws.{countedBy}
 use Rattle.bench_laws.proofs.BenchLaws.{turnAt, Turns}
-use Rattle.station.proofs.SendLaws.{sends-below}
-use Rattle.bench_laws.proofs.StationStates.{Sending, Stands, stands-ok, mark, vacant, Settles, counts-on}
+use Rattle.bench_laws.proofs.StationStates.{Follows, Sending, Stands, stands-ok, mark, vacant, Settles, counts-on}
 use Rattle.bench_laws.proofs.Tally.{total, total-grows}
+use Rattle.bench_laws.proofs.InTurn.{Given, counts-still}
 
 abbrev pub slot : Moment → ℕ → Station
-slot now i = getD (now .slots) i emptyStation
+slot now i = getD (now .stations) i emptyStation
 
 -- the answer of a call that is not refused
 abbrev pub newest : Moment → ℕ → BenchTurn → Answered
@@ -44,12 +43,10 @@ module _ (n : ℕ) (message : ℕ → Message) where
   -- the messages are such as loading accepts
   pub record Bench : Type 0 where
     pub valid : (i : ℕ) → i < n → messageOk (message i) ≡ true
-    pub bytes : (i : ℕ) → i < n → BytesOk (message i)
 
-  -- at every moment, the slots having held start at the start: a station is empty exactly when it has said DONE
-  pub record Kept (start : List Station) (now : Moment) : Type 0 where
-    pub room : n ≤ length (now .slots)
-    pub beyond : drop n (now .slots) ≡ drop n start
+  -- at every moment: a station is empty exactly when it has said DONE
+  pub record Kept (now : Moment) : Type 0 where
+    pub many : length (now .stations) ≡ n
     pub tally : (i : ℕ) → i < n → timesDone i (now .past) ≡ vacant (slot now i)
     pub right : AllRight n message (now .past)
 
@@ -61,6 +58,8 @@ module _ (n : ℕ) (message : ℕ → Message) where
     pub near : c ≤ heard + 3
     pub stations : (i : ℕ) → i < n → Stands (message i) [] c (slot now i)
     pub bound : (i : ℕ) → i < n → vacant (slot now i) ≡ 0 → length (now .past) ≤ callsEach * total n (now .past) + c
+    -- each MESSAGE has had its REPEAT
+    pub equal : timesGiven (now .past) ≡ timesRepeated (now .past)
 
   -- the burst so far is sent; before it z clear half-cycles were counted, and the receiver stood at r
   pub record Underway (z : ℕ) (r : Receiver) (sent : List ℕ) (now : Moment) : Type 0 where
@@ -71,6 +70,8 @@ module _ (n : ℕ) (message : ℕ → Message) where
     pub lines : linesOf (now .past) ≡ reverseAux sent (linesOf before)
     pub events : eventsIn (now .past) ≡ reverseAux (eventsOf r sent) (eventsIn before)
     pub bound : length (now .past) ≤ callsEach * total n (now .past) + 10 + length sent
+    -- for each burst that has begun so: all have had it until the frame's end, and after it all but the last
+    pub given : (i : ℕ) → i < n → Follows (message i) sent → Given (message i) (length sent) (now .past)
 
   -- some station sends on
   pub record Sender (z : ℕ) (sent : List ℕ) (now : Moment) : Type 0 where
@@ -96,26 +97,18 @@ module _ (n : ℕ) (message : ℕ → Message) where
     pub all-ok : (i : ℕ) → i < n → stationOk (slot now i) ≡ true
     all-ok i l = stands-ok (message i) (B .valid i l) (A .sent) (A .count) (slot now i) (A .stands i l)
 
-    pub line-half : (draws : List ℕ) (h : ℕ) (t : BenchTurn) → Turns n (now .slots) draws h t → h ≤ 1
-    line-half draws h t T = go (T .some)
-      where
-        go : (h ≡ 0) ⊎ ((i : ℕ) × (i < n) × (sendsOf (slot now i) ≡ h)) → h ≤ 1
-        go (inl e) = omega arith
-        go (inr (i, l, e)) = omega (arith, sends-below (slot now i))
-
-  module _ (start : List Station) (now : Moment) (draws : List ℕ) (h : ℕ) (t : BenchTurn) (T : Turns n (now .slots) draws h t) where
-    pub keeps : Kept start now
-        → ((i : ℕ) → i < n → vacant (turnAt h (now .slots) draws i .next) ≡ mark (isDone (turnAt h (now .slots) draws i .answer)) + vacant (slot now i))
-        → Right n message (newest now h t) (now .past) → Kept start (nextMoment now t (Line h))
+  module _ (now : Moment) (draws : List ℕ) (h : ℕ) (t : BenchTurn) (T : Turns n (now .stations) draws h t) where
+    pub keeps : Kept now
+        → ((i : ℕ) → i < n → vacant (turnAt h (now .stations) draws i .next) ≡ mark (isDone (turnAt h (now .stations) draws i .answer)) + vacant (slot now i))
+        → Right n message (newest now h t) (now .past) → Kept (nextMoment now t (Line h))
     keeps K empties right = record {
-      room = omega (arith, T .same, K .room);
-      beyond = T .beyond ∙ K .beyond;
+      many = T .same ∙ K .many;
       tally = λ i l. omega (arith, ap mark (T .says i l), K .tally i l, empties i l, ap vacant (T .next i l));
       right = (right, K .right);
     }
 
     -- where no station says DONE
-    pub going-right : ((i : ℕ) → i < n → isDone (turnAt h (now .slots) draws i .answer) ≡ false) → (newest now h t .event ≡ Repeat → ⊥)
+    pub going-right : ((i : ℕ) → i < n → isDone (turnAt h (now .stations) draws i .answer) ≡ false) → (newest now h t .event ≡ Repeat → ⊥)
         → ((m : Message) → newest now h t .event ≡ Gives m → (i : ℕ) × (i < n) × (message i ≡ m)) → eventNumber (newest now h t .event) ≡ 0
         → Right n message (newest now h t) (now .past)
     going-right none again gives clean = record {
@@ -126,18 +119,18 @@ module _ (n : ℕ) (message : ℕ → Message) where
     }
 
   -- none sends: all that wait have counted one more
-  module _ (B : Bench) (start : List Station) (now : Moment) (draws : List ℕ) (t : BenchTurn) (T : Turns n (now .slots) draws 0 t)
+  module _ (B : Bench) (now : Moment) (draws : List ℕ) (t : BenchTurn) (T : Turns n (now .stations) draws 0 t)
       (c : ℕ) (Q : Quiet c now) where
     settled : (i : ℕ) → i < n
-        → Settles (message i) [] (c + 1) (slot now i) (turnAt 0 (now .slots) draws i) × (isDone (turnAt 0 (now .slots) draws i .answer) ≡ false)
+        → Settles (message i) [] (c + 1) (slot now i) (turnAt 0 (now .stations) draws i) × (isDone (turnAt 0 (now .stations) draws i .answer) ≡ false)
     settled i l = counts-on (message i) (B .valid i l) c (getD draws i 0) (T .draw i l) (slot now i) (T .above i l) (Q .stations i l)
 
-    pub quiet-call : Kept start now → Kept start (nextMoment now t (Line 0)) × Quiet (c + 1) (nextMoment now t (Line 0))
+    pub quiet-call : Kept now → Kept (nextMoment now t (Line 0)) × Quiet (c + 1) (nextMoment now t (Line 0))
     quiet-call K =
         let step = rests-step (Q .rests) in
         let nothing : newest now 0 t .event ≡ Nothing = ap (λ (x : Heard). x .event) step in (
-          keeps start now draws 0 t T K (λ i l. settled i l .0 .empties)
-              (going-right start now draws 0 t T (λ i l. settled i l .1) (λ e. let z : _≡_ {A = ℕ} 0 1 = cc in absurd (omega arith))
+          keeps now draws 0 t T K (λ i l. settled i l .0 .empties)
+              (going-right now draws 0 t T (λ i l. settled i l .1) (λ e. let z : _≡_ {A = ℕ} 0 1 = cc in absurd (omega arith))
               (λ m e. let z : _≡_ {A = ℕ} 0 1 = cc in absurd (omega arith)) (ap eventNumber nothing)),
           record {
             heard = suc (Q .heard);
@@ -150,5 +143,6 @@ module _ (n : ℕ) (message : ℕ → Message) where
                   total-grows n (newest now 0 t) (now .past),
                   Q .bound i l (omega (arith, settled i l .0 .empties, ap vacant (T .next i l))),
                 );
+            equal = omega (arith, Q .equal, counts-still (newest now 0 t) (now .past) nothing);
           },
         )

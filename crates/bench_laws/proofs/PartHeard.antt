@@ -13,7 +13,7 @@ use lib.Dec.{eqb}
 use lib.ListN.{length, getD, take, length-reverse}
 use lib.Seq.{take-at}
 use Rattle.ground.specs.Choice.{pick}
-use Rattle.message.specs.Messages.{messageOk, BytesOk}
+use Rattle.message.specs.Messages.{messageOk}
 use Rattle.message.specs.declared.Message.{Message}
 use Rattle.message.specs.declared.Message.the-variants.{Address, Function as Command, Extended}
 use Rattle.burst.specs.Frames.{frameLength, burstOf, burstLength}
@@ -68,15 +68,22 @@ pub part-events : (r : Receiver) (sent : List ℕ) (h : ℕ) → eventsOf r (sen
 unfolding eventsOf
 part-events r sent h = events-append r sent (h ∷ [])
 
-module _ (m : Message) (valid : messageOk m ≡ true) (bytes : BytesOk m) (r : Receiver) (ready : Ready r) where
+module _ (m : Message) (valid : messageOk m ≡ true) (r : Receiver) (ready : Ready r) where
   pub part-event : (sent : List ℕ) (h : ℕ) → Follows m sent → getD (burstOf m) (length sent) 0 ≡ h
       → stepOf (receiverAfter r sent) h .event ≡ eventAt m (length sent)
   unfolding standsAt
   part-event sent h f e =
       ap₂ (λ (hs : List ℕ) (h : ℕ). stepOf (receiverAfter r hs) h .event) (sym (f .front)) (sym e)
-      ∙ ap (λ (x : Heard). x .event) (stands-step m valid bytes r ready (length sent) (omega (arith, burst-length m, f .more)))
+      ∙ ap (λ (x : Heard). x .event) (stands-step m valid r ready (length sent) (omega (arith, burst-length m, f .more)))
 
 -- ---- the whole burst, newest first
+
+-- one event for each half-cycle
+events-length : (m : Message) → length (burstEvents m) ≡ burstLength m
+unfolding burstEvents frameEvents
+events-length (Address h u) = refl
+events-length (Command h f) = refl
+events-length (Extended h u d c) = refl
 
 module _ (past before : List Answered) where
   lines-back : (m : Message) → linesOf past ≡ reverseAux (burstOf m) (linesOf before) → take (burstLength m) (linesOf past) ≡ reverse (burstOf m)
@@ -84,14 +91,33 @@ module _ (past before : List Answered) where
       ap (take (burstLength m)) (lines ∙ reverseAux-eq (burstOf m) (linesOf before))
       ∙ take-at (reverse (burstOf m)) (linesOf before) (burstLength m) (length-reverse (burstOf m) ∙ burst-length m)
 
+  events-back : (m : Message) → eventsIn past ≡ reverseAux (burstEvents m) (eventsIn before)
+      → take (burstLength m) (eventsIn past) ≡ reverse (burstEvents m)
+  events-back m events =
+      ap (take (burstLength m)) (events ∙ reverseAux-eq (burstEvents m) (eventsIn before))
+      ∙ take-at (reverse (burstEvents m)) (eventsIn before) (burstLength m) (length-reverse (burstEvents m) ∙ events-length m)
+
   looked-back : (m : Message) → linesOf past ≡ reverseAux (burstOf m) (linesOf before) → eventsIn past ≡ reverseAux (burstEvents m) (eventsIn before)
       → SentAndHeard m past
   unfolding burstEvents frameEvents
-  looked-back (Address h u) lines events = record { sent = lines-back (Address h u) lines; gave = rw events refl; repeated = rw events refl }
-  looked-back (Command h f) lines events = record { sent = lines-back (Command h f) lines; gave = rw events refl; repeated = rw events refl }
-  looked-back (Extended h u d c) lines events = record { sent = lines-back (Extended h u d c) lines; gave = rw events refl; repeated = rw events refl }
+  looked-back m lines events = record {
+    sent = lines-back m lines;
+    gave = gave m events;
+    repeated = repeated m events;
+    one = events-back m events;
+  }
+    where
+      gave : (m : Message) → eventsIn past ≡ reverseAux (burstEvents m) (eventsIn before) → getD (eventsIn past) (frameLength m) Nothing ≡ Gives m
+      gave (Address h u) e = rw e refl
+      gave (Command h f) e = rw e refl
+      gave (Extended h u d c) e = rw e refl
 
-  pub sent-and-heard : (m : Message) → messageOk m ≡ true → BytesOk m → (r : Receiver) → Ready r
+      repeated : (m : Message) → eventsIn past ≡ reverseAux (burstEvents m) (eventsIn before) → getD (eventsIn past) 0 Nothing ≡ Repeat
+      repeated (Address h u) e = rw e refl
+      repeated (Command h f) e = rw e refl
+      repeated (Extended h u d c) e = rw e refl
+
+  pub sent-and-heard : (m : Message) → messageOk m ≡ true → (r : Receiver) → Ready r
       → linesOf past ≡ reverseAux (burstOf m) (linesOf before) → eventsIn past ≡ reverseAux (eventsOf r (burstOf m)) (eventsIn before) → SentAndHeard m past
-  sent-and-heard m valid bytes r ready lines events =
-      looked-back m lines (events ∙ ap (λ (es : List Event). reverseAux es (eventsIn before)) (hears-burst m valid bytes r ready .events))
+  sent-and-heard m valid r ready lines events =
+      looked-back m lines (events ∙ ap (λ (es : List Event). reverseAux es (eventsIn before)) (hears-burst m valid r ready .events))

@@ -1,32 +1,43 @@
--- One station after another half-cycle of the line, for stations that started together: it is at the half-cycle of its burst that is due as
--- long as the line has carried that burst, and behind once it has not; one that did not start does not catch up.
+-- One station after another half-cycle of the line. One that sends is as far as the half-cycles since it started, or it gave way and is behind; one
+-- that waits while a burst is on the line meets too few clear half-cycles in a row to begin.
 --
---     Carried, carried-more, carried-less     the line has carried the first half-cycles of a burst
---     Along, Track, along-turn, track-turn    a station that started
---     Aside, aside-turn, not-aside            a station that did not
---     at-place                                a station that has counted its wait sends
-use mathlib.Core.Path.{_≡_, sym, ap, ap₂, _∙_}
-use mathlib.Core.Bool.{Bool, true, false, false≢true}
-use mathlib.Core.List.{List, [], _∷_, reverse, reverse-append, head-eq-of-cons-eq, tail-eq-of-cons-eq}
-use Prim.Native.Nat.{ℕ, suc, _+_, _≤_, _<_}
+--     Carried, carried-more                          the line has carried the first half-cycles of a burst
+--     Fine, fine                                     what a valid station with a message has
+--     empties                                        a station is newly empty exactly where it says DONE
+--     Along, along-start, along-half, along-turn, along-ends     a station that sends
+--     Both, both-turn, both-vacant                   two that started together with one message
+--     Beside, beside-start, beside-sends, beside-turn     any station beside the one whose burst the line carries
+use mathlib.Core.Path.{_≡_, refl, sym, ap, ap₂, subst, _∙_}
+use mathlib.Core.Bool.{Bool, true, false, _&&_, _||_, and-eq-true-iff}
+use mathlib.Core.List.{List, [], _∷_, _++_, reverse, reverse-append}
+use Prim.Native.Nat.{ℕ, zero, suc, _+_, _≤_, _<_}
 use native.Mathlib.Numerals.{add-one}
 use native.Mathlib.Decide.{ℕ-discrete}
 use native.Mathlib.Omega.{arith}
-use lib.Dec.{eqb}
+use borrow.Author.Tests.{le-leb, leb-true, ltb-true, eqb-true, eqb-false}
+use lib.Dec.{eqb, leb, ltb}
 use lib.ListN.{length, getD, take}
-use lib.Seq.{take-suc}
+use lib.Seq.{take-suc, length-take-le}
 use Rattle.ground.specs.Choice.{pick}
+use Rattle.ground.specs.Refusals.{judged}
 use Rattle.message.specs.Messages.{messageOk}
 use Rattle.message.specs.declared.Message.{Message}
-use Rattle.burst.specs.Frames.{burstOf, burstLength}
+use Rattle.burst.specs.Frames.{frameOf, burstOf, burstLength}
 use Rattle.burst.proofs.FrameLaws.{burst-length}
-use Rattle.station.specs.Stations.{emptyStation, drawOk, stationOk, isEmpty, sendsOf, turnOf}
-use Rattle.station.specs.declared.Held.the-variants.{Holds}
+use Rattle.station.specs.Stations.{emptyStation, drawOk, heldOk, stationOk, loaded, isEmpty, sendsOf, heldMoves, turnOf, isDone}
+use Rattle.station.specs.declared.Held.{Held}
+use Rattle.station.specs.declared.Held.the-variants.{Empty, Holds}
 use Rattle.station.specs.declared.Station.{Station}
 use Rattle.station.specs.declared.Turn.{Turn}
-use Rattle.bench_laws.proofs.Turns.{holding, next-of, empty-turn, sending-sends, waiting-turn, ends-turn, sends-turn, yields-turn, Moves, ends, holds}
-use Rattle.bench_laws.proofs.Turns.{moves}
-use Rattle.bench_laws.proofs.StationStates.{Sending, Stands, gone, waiting, sends}
+use Rattle.station.specs.declared.TurnAnswer.the-variants.{Done}
+use Rattle.station.proofs.SendLaws.{no-fault}
+use Rattle.station.proofs.TurnLaws.{Movable}
+use Rattle.bench_laws.specs.Together.{Starts, notGreater}
+use Rattle.bench_laws.proofs.BurstLaws.{burst-first, counted, countedBy, counted-append, clear-briefly}
+use Rattle.bench_laws.proofs.Turns.{holding, goes, next-of, drawn, empty-turn, waiting-sends, sending-sends, waiting-turn, ends-turn, sends-turn}
+use Rattle.bench_laws.proofs.Turns.{yields-turn, Moves, ends, holds, moves}
+use Rattle.bench_laws.proofs.StationStates.{mark, vacant}
+use Rattle.bench_laws.proofs.Compare.{not-ahead}
 
 -- ---- the line and a burst
 
@@ -34,19 +45,34 @@ use Rattle.bench_laws.proofs.StationStates.{Sending, Stands, gone, wait
 abbrev pub Carried : Message → ℕ → List ℕ → Type 0
 Carried m k lines = take k lines ≡ reverse (take k (burstOf m))
 
-module _ (m : Message) (k h : ℕ) (lines : List ℕ) (short : k < burstLength m) where
-  back-more : reverse (take (suc k) (burstOf m)) ≡ getD (burstOf m) k 0 ∷ reverse (take k (burstOf m))
-  back-more =
-      ap reverse (take-suc (burstOf m) k 0 (omega (arith, burst-length m)))
-      ∙ reverse-append (take k (burstOf m)) (getD (burstOf m) k 0 ∷ [])
+-- one half-cycle more of a burst
+take-more : (m : Message) (k : ℕ) → k < burstLength m → take (suc k) (burstOf m) ≡ take k (burstOf m) ++ (getD (burstOf m) k 0 ∷ [])
+take-more m k short = take-suc (burstOf m) k 0 (omega (arith, burst-length m))
 
-  pub carried-more : getD (burstOf m) k 0 ≡ h → Carried m k lines → Carried m (suc k) (h ∷ lines)
-  carried-more e c = ap₂ _∷_ (sym e) c ∙ sym back-more
+pub carried-more : (m : Message) (k h : ℕ) (lines : List ℕ) → k < burstLength m → getD (burstOf m) k 0 ≡ h → Carried m k lines → Carried m (suc k) (h ∷ lines)
+carried-more m k h lines short e c =
+    ap₂ _∷_ (sym e) c ∙ sym (ap reverse (take-more m k short) ∙ reverse-append (take k (burstOf m)) (getD (burstOf m) k 0 ∷ []))
 
-  carried-less : Carried m (suc k) (h ∷ lines) → Carried m k lines × (getD (burstOf m) k 0 ≡ h)
-  carried-less c = (tail-eq-of-cons-eq (c ∙ back-more), sym (head-eq-of-cons-eq (c ∙ back-more)))
+-- ---- a valid station with a message
 
--- ---- one half-cycle of one station
+pub record Fine (m : Message) (s : Station) : Type 0 where
+  pub valid : messageOk m ≡ true
+  pub drawn-wait : drawOk (s .wait) ≡ true
+  pub counts : s .count ≤ s .wait
+  pub within : s .place < burstLength m
+
+pub fine : (m : Message) (s : Station) → s .held ≡ Holds m → stationOk s ≡ true → Fine m s
+unfolding stationOk
+fine m s e ok =
+    let all = and-eq-true-iff (drawOk (s .wait)) _ .0 (subst (λ (x : Held). heldOk x (s .wait) (s .count) (s .place) ≡ true) e ok) in
+    let counting = and-eq-true-iff (leb (s .count) (s .wait)) _ .0 (all .1) in
+    let placing = and-eq-true-iff (ltb (s .place) (burstLength m)) _ .0 (counting .1) in
+    record {
+      valid = and-eq-true-iff (eqb (s .place) 0 || leb (s .wait) (s .count)) (messageOk m) .0 (placing .1) .1;
+      drawn-wait = all .0;
+      counts = leb-true (s .count) (s .wait) (counting .0);
+      within = ltb-true (s .place) (burstLength m) (placing .0);
+    }
 
 -- it sends, at place k
 pub record Along (m : Message) (k : ℕ) (s : Station) : Type 0 where
@@ -54,74 +80,210 @@ pub record Along (m : Message) (k : ℕ) (s : Station) : Type 0 where
   pub drawn-wait : drawOk wait ≡ true
   pub is : s ≡ holding m wait wait k
 
--- a station that started k half-cycles ago
-pub data Track (m : Message) (k : ℕ) (lines : List ℕ) (s : Station) : Type 0 where
-  along : Along m k s → k < burstLength m → Carried m k lines → Track m k lines s
-  over : k ≡ burstLength m → s ≡ emptyStation → Carried m k lines → Track m k lines s
-  behind : s .held ≡ Holds m → s .place < k → (Carried m k lines → ⊥) → Track m k lines s
+-- a station by its fields
+by-fields : {x : Held} {w c p : ℕ} (s : Station) → s .held ≡ x → s .wait ≡ w → s .count ≡ c → s .place ≡ p
+    → s ≡ record { held = x; wait = w; count = c; place = p }
+by-fields {x} {w} {c} {p} s eh ew ec ep =
+    ap₂ (λ (x : Held) (w : ℕ). record { held = x; wait = w; count = s .count; place = s .place }) eh ew
+    ∙ ap₂ (λ (c p : ℕ). record { held = x; wait = w; count = c; place = p }) ec ep
 
--- a station that did not
-pub data Aside (m : Message) (k : ℕ) (s : Station) : Type 0 where
-  empty : s ≡ emptyStation → Aside m k s
-  idle : (w c : ℕ) → drawOk w ≡ true → c < w → s ≡ holding m w c 0 → Aside m k s
-  late : s .held ≡ Holds m → s .place < k → Aside m k s
+pub along-start : {m : Message} {s : Station} → stationOk s ≡ true → Starts m s → Along m 0 s
+along-start {m} {s} ok st = record {
+  wait = s .wait;
+  drawn-wait = fine m s (st .holds) ok .drawn-wait;
+  is = by-fields s (st .holds) refl (st .counted) (st .unsent);
+}
 
-module _ (m : Message) (valid : messageOk m ≡ true) (s : Station) (ok : stationOk s ≡ true) (h d : ℕ) (low : h ≤ 1) (hd : drawOk d ≡ true)
-    (above : sendsOf s ≤ h) (k : ℕ) where
-  pub along-half : Along m k s → sendsOf s ≡ getD (burstOf m) k 0
-  along-half a = ap sendsOf (a .is) ∙ sending-sends m (a .wait) valid (a .drawn-wait) k
+-- it holds the message, and has sent less than k half-cycles
+abbrev pub Behind : Message → ℕ → Station → Type 0
+Behind m k s = (s .held ≡ Holds m) × (s .place < k)
 
-  turned : {t : Turn} {s′ : Station} → s ≡ s′ → turnOf s′ h d ≡ t → turnOf s h d .next ≡ t .next
+-- ---- one half-cycle of a station that has heard the line's
+
+module _ {s : Station} {h d : ℕ} (r : Movable s (sendsOf s) h d) where
+  turned : {s′ : Station} {t : Turn} → s ≡ s′ → turnOf s′ h d ≡ t → turnOf s h d .next ≡ t .next
   turned e p = ap (λ (s : Station). turnOf s h d .next) e ∙ next-of p
 
-  pub along-turn : Along m k s → k < burstLength m → getD (burstOf m) k 0 ≡ h → (k + 1 ≡ burstLength m → ⊥) → Along m (suc k) (turnOf s h d .next)
-  along-turn a l e n = record {
-    wait = a .wait;
-    drawn-wait = a .drawn-wait;
-    is =
-        turned (a .is) (sends-turn m (a .wait) valid (a .drawn-wait) h d low hd k l e n)
-        ∙ ap (λ (k : ℕ). holding m (a .wait) (a .wait) k) (add-one k);
-  }
+  -- a station is newly empty exactly where it says DONE
+  abbrev Empties : Turn → Type 0
+  Empties t = vacant (t .next) ≡ mark (isDone (t .answer)) + vacant s
 
-  pub track-turn : (lines : List ℕ) → k < burstLength m → Track m k lines s → Track m (suc k) (h ∷ lines) (turnOf s h d .next)
-  track-turn lines short (over e p c) = absurd (omega arith)
-  track-turn lines short (behind p q n) = go (moves m s h d p ok low hd above)
-    where
-      go : Moves m s (turnOf s h d) → Track m (suc k) (h ∷ lines) (turnOf s h d .next)
-      go (ends e x) = absurd (omega arith)
-      go (holds x l) = behind x (omega arith) (λ c. n (carried-less m k h lines short c .0))
-  track-turn lines short (along a l c) =
-      go (ℕ-discrete (getD (burstOf m) k 0) h) (ℕ-discrete (k + 1) (burstLength m)) (omega (arith, along-half a))
-    where
-      go : Dec (getD (burstOf m) k 0 ≡ h) → Dec (k + 1 ≡ burstLength m) → getD (burstOf m) k 0 ≤ h → Track m (suc k) (h ∷ lines) (turnOf s h d .next)
-      go (yes e) (yes x) u =
-          over (omega arith) (turned (a .is) (ends-turn m (a .wait) valid (a .drawn-wait) h d low hd k short e x)) (carried-more m k h lines short e c)
-      go (yes e) (no x) u = along (along-turn a l e x) (omega arith) (carried-more m k h lines short e c)
-      go (no e) x u =
-          let p = turned (a .is) (yields-turn m (a .wait) valid (a .drawn-wait) h d low hd k short (omega arith)) in
-          behind (ap (λ (s : Station). s .held) p) (omega (arith, ap (λ (s : Station). s .place) p)) (λ c. e (carried-less m k h lines short c .1))
+  empties-held : (m : Message) → vacant s ≡ 0 → (a b c e : Bool)
+      → Empties (pick a (pick b (pick c (record { answer = Done; next = emptyStation }) (goes (holding m (s .wait) (s .count) (s .place + 1))))
+      (goes (loaded m d))) (goes (pick e (loaded m d) (holding m (s .wait) (s .count + 1) 0))))
+  empties-held m v true true true e = omega (arith, v)
+  empties-held m v true true false e = omega (arith, v)
+  empties-held m v true false c e = omega (arith, v)
+  empties-held m v false b c true = omega (arith, v)
+  empties-held m v false b c false = omega (arith, v)
 
-  pub aside-turn : Aside m k s → Aside m (suc k) (turnOf s h d .next)
-  aside-turn (empty e) = empty (turned e (empty-turn h d low hd))
-  aside-turn (idle w c hw l e) = go (eqb h 1) (turned e (waiting-turn m w valid hw h d low hd c l))
+  pub empties : Empties (turnOf s h d)
+  unfolding turnOf judged
+  empties =
+      simp (le-leb h 1 (r .half), r .ok, r .drawn, no-fault (sendsOf s) h (r .kept)) (go (s .held) refl)
     where
-      go : (b : Bool) → turnOf s h d .next ≡ pick b (holding m d 0 0) (holding m w (c + 1) 0) → Aside m (suc k) (turnOf s h d .next)
-      go true p = late (ap (λ (s : Station). s .held) p) (omega (arith, ap (λ (s : Station). s .place) p))
-      go false p = late (ap (λ (s : Station). s .held) p) (omega (arith, ap (λ (s : Station). s .place) p))
-  aside-turn (late p q) = go (moves m s h d p ok low hd above)
+      go : (x : Held) → s .held ≡ x → Empties (heldMoves x s h d)
+      go Empty e = omega arith
+      go (Holds m) e =
+          empties-held m (ap (λ (x : Held). mark (isEmpty x)) e) (eqb (s .count) (s .wait)) (eqb (getD (burstOf m) (s .place) 0) h)
+          (eqb (s .place + 1) (burstLength m)) (eqb h 1)
+
+  -- ---- a station that sends
+
+  module _ (m : Message) (k : ℕ) (a : Along m k s) where
+    found : Fine m s
+    found = fine m s (ap (λ (s : Station). s .held) (a .is)) (r .ok)
+
+    abbrev half : ℕ
+    half = getD (burstOf m) k 0
+
+    pub along-half : sendsOf s ≡ half
+    along-half = ap sendsOf (a .is) ∙ sending-sends m (a .wait) (found .valid) (a .drawn-wait) k
+
+    along-within : k < burstLength m
+    along-within = omega (arith, found .within, ap (λ (s : Station). s .place) (a .is))
+
+    -- it hears what it sends, before its burst's end and there; or it hears another
+    pub along-turn : half ≡ h → (k + 1 ≡ burstLength m → ⊥) → Along m (suc k) (turnOf s h d .next)
+    along-turn e n = record {
+      wait = a .wait;
+      drawn-wait = a .drawn-wait;
+      is =
+          turned (a .is) (sends-turn m (a .wait) (found .valid) (a .drawn-wait) h d (r .half) (r .drawn) k along-within e n)
+          ∙ ap (λ (k : ℕ). holding m (a .wait) (a .wait) k) (add-one k);
+    }
+
+    pub along-ends : half ≡ h → k + 1 ≡ burstLength m → turnOf s h d .next ≡ emptyStation
+    along-ends e x = turned (a .is) (ends-turn m (a .wait) (found .valid) (a .drawn-wait) h d (r .half) (r .drawn) k along-within e x)
+
+    along-yields : (half ≡ h → ⊥) → turnOf s h d .next ≡ holding m d 0 0
+    along-yields n =
+        turned (a .is) (yields-turn m (a .wait) (found .valid) (a .drawn-wait) h d (r .half) (r .drawn) k along-within
+        (omega (arith, along-half, r .kept)))
+
+  behind-turn : (m : Message) (k : ℕ) → k < burstLength m → Behind m k s → Behind m (suc k) (turnOf s h d .next)
+  behind-turn m k short b = go (moves m s h d (b .0) (r .ok) (r .half) (r .drawn) (r .kept))
     where
-      go : Moves m s (turnOf s h d) → Aside m (suc k) (turnOf s h d .next)
-      go (ends e x) = empty (next-of x)
-      go (holds x l) = late x (omega arith)
+      go : Moves m s (turnOf s h d) → Behind m (suc k) (turnOf s h d .next)
+      go (ends e x) = absurd (omega (arith, b .1))
+      go (holds x l) = (x, omega (arith, b .1))
 
-pub not-aside : {m : Message} {k : ℕ} {s : Station} (w : ℕ) → s ≡ holding m w w k → Aside m k s → ⊥
-not-aside w e (empty p) = false≢true (ap (λ (s : Station). isEmpty (s .held)) (sym e ∙ p))
-not-aside w e (idle v c d l p) = omega (arith, ap (λ (s : Station). s .count) (sym e ∙ p), ap (λ (s : Station). s .wait) (sym e ∙ p))
-not-aside w e (late p l) = omega (arith, ap (λ (s : Station). s .place) e)
+-- ---- two stations that started together with one message
 
--- a station that has counted its wait sends, and its place is how much was sent
-pub at-place : {m : Message} {sent : List ℕ} {z k : ℕ} {s : Station} → Stands m sent z s → s .held ≡ Holds m → s .count ≡ s .wait → s .place ≡ k
-    → Sending m sent z s × (length sent ≡ k)
-at-place (gone e) p q r = absurd (false≢true (ap isEmpty (sym p ∙ ap (λ (s : Station). s .held) e)))
-at-place (waiting w d u e) p q r = absurd (omega (arith, q, ap (λ (s : Station). s .count) e, ap (λ (s : Station). s .wait) e))
-at-place (sends x) p q r = (x, sym (ap (λ (s : Station). s .place) (x .is)) ∙ r)
+-- k half-cycles ago
+pub data Both (m : Message) (k : ℕ) (s t : Station) : Type 0 where
+  along : Along m k s → Along m k t → Both m k s t
+  over : k ≡ burstLength m → s ≡ emptyStation → t ≡ emptyStation → Both m k s t
+  behind : Behind m k s → Behind m k t → Both m k s t
+
+module _ {s t : Station} {h d e : ℕ} (r : Movable s (sendsOf s) h d) (q : Movable t (sendsOf t) h e) (m : Message) (k : ℕ) (short : k < burstLength m) where
+  pub both-turn : Both m k s t → Both m (suc k) (turnOf s h d .next) (turnOf t h e .next)
+  both-turn (over l x y) = absurd (omega arith)
+  both-turn (behind a b) = behind (behind-turn r m k short a) (behind-turn q m k short b)
+  both-turn (along a b) = go (ℕ-discrete (getD (burstOf m) k 0) h) (ℕ-discrete (k + 1) (burstLength m))
+    where
+      fresh : {s : Station} (d : ℕ) → s ≡ holding m d 0 0 → Behind m (suc k) s
+      fresh d x = (ap (λ (s : Station). s .held) x, omega (arith, ap (λ (s : Station). s .place) x))
+
+      go : Dec (getD (burstOf m) k 0 ≡ h) → Dec (k + 1 ≡ burstLength m) → Both m (suc k) (turnOf s h d .next) (turnOf t h e .next)
+      go (yes x) (yes y) = over (omega arith) (along-ends r m k a x y) (along-ends q m k b x y)
+      go (yes x) (no y) = along (along-turn r m k a x y) (along-turn q m k b x y)
+      go (no x) y = behind (fresh d (along-yields r m k a x)) (fresh e (along-yields q m k b x))
+
+pub both-vacant : {m : Message} {k : ℕ} {s t : Station} → Both m k s t → vacant s ≡ vacant t
+both-vacant (along a b) = ap vacant (a .is) ∙ sym (ap vacant (b .is))
+both-vacant (over l x y) = ap vacant (x ∙ sym y)
+both-vacant (behind a b) = ap (λ (x : Held). mark (isEmpty x)) (a .0 ∙ sym (b .0))
+
+-- ---- any station beside the one whose burst the line carries
+
+-- how many clear half-cycles in a row end the first k of a burst
+abbrev clearAt : Message → ℕ → ℕ
+clearAt m k = countedBy 0 (take k (burstOf m))
+
+clear-more : (m : Message) (k : ℕ) → k < burstLength m → clearAt m (suc k) ≡ counted (clearAt m k) (getD (burstOf m) k 0)
+clear-more m k short = ap (countedBy 0) (take-more m k short) ∙ counted-append 0 (take k (burstOf m)) (getD (burstOf m) k 0 ∷ [])
+
+-- a burst begins with 1
+clear-later : (m : Message) (k : ℕ) → getD (burstOf m) k 0 ≡ 0 → 0 < k
+clear-later m zero e = absurd (omega (arith, e, burst-first m))
+clear-later m (suc k) e = omega arith
+
+-- Since the burst of m began, k half-cycles ago, a station that was `at` then is empty; or waits, and has counted no more than those; or started with
+-- it, and has sent the same.
+pub data Beside (m : Message) (k : ℕ) (at s : Station) : Type 0 where
+  empty : s ≡ emptyStation → Beside m k at s
+  idle : (g : Message) (w c : ℕ) → drawOk w ≡ true → c < w → (0 < k → c ≤ clearAt m k) → s ≡ holding g w c 0 → Beside m k at s
+  level : (g : Message) → Starts g at → Along g k s → take k (burstOf g) ≡ take k (burstOf m) → Beside m k at s
+
+pub beside-start : (m : Message) (s : Station) → stationOk s ≡ true → s .place ≡ 0 → Beside m 0 s s
+unfolding stationOk
+beside-start m s ok unsent = go (s .held) refl
+  where
+    go : (x : Held) → s .held ≡ x → Beside m 0 s s
+    go Empty e =
+        let all = and-eq-true-iff (eqb (s .wait) 8) _ .0 (subst (λ (x : Held). heldOk x (s .wait) (s .count) (s .place) ≡ true) e ok) in
+        let rest = and-eq-true-iff (eqb (s .count) 0) (eqb (s .place) 0) .0 (all .1) in
+        empty (by-fields s e (eqb-true (s .wait) 8 (all .0)) (eqb-true (s .count) 0 (rest .0)) unsent)
+    go (Holds g) e = counting (ℕ-discrete (s .count) (s .wait))
+      where
+        f : Fine g s
+        f = fine g s e ok
+
+        counting : Dec (s .count ≡ s .wait) → Beside m 0 s s
+        counting (yes c) =
+            let st : Starts g s = record { holds = e; counted = c; unsent = unsent } in
+            level g st (along-start ok st) refl
+        counting (no c) =
+            idle g (s .wait) (s .count) (f .drawn-wait) (omega (arith, f .counts)) (λ u. absurd (omega arith)) (by-fields s e refl refl unsent)
+
+module _ {s at : Station} {h d : ℕ} (r : Movable s (sendsOf s) h d) (m : Message) (k : ℕ) (short : k < burstLength m) where
+  -- it sends no more than that burst has
+  pub beside-sends : messageOk m ≡ true → ((g : Message) → Starts g at → notGreater (frameOf g) (frameOf m) ≡ true) → Beside m k at s
+      → sendsOf s ≤ getD (burstOf m) k 0
+  unfolding sendsOf
+  beside-sends valid lower (empty p) = omega (arith, ap sendsOf p)
+  beside-sends valid lower (idle g w c hw l few p) =
+      omega (arith, ap sendsOf p, waiting-sends g w (fine g s (ap (λ (s : Station). s .held) p) (r .ok) .valid) hw c l)
+  beside-sends valid lower (level g st a same) =
+      let sent : List ℕ = take k (burstOf m) in
+      let long : length sent ≡ k = length-take-le k (burstOf m) (omega (arith, burst-length m)) in
+      let theirs = found r g k a .valid in
+      let first =
+      not-ahead g m theirs valid sent (ap (λ (j : ℕ). take j (burstOf g)) long ∙ same)
+      (ap (λ (j : ℕ). take j (burstOf m)) long) (lower g st) in
+      omega (
+        arith,
+        along-half r g k a,
+        first,
+        ap (λ (j : ℕ). getD (burstOf g) j 0) long,
+        ap (λ (j : ℕ). getD (burstOf m) j 0) long,
+      )
+
+  module _ (carries : getD (burstOf m) k 0 ≡ h) where
+    -- a station that has heard a 1 counts from 0
+    restarts : (g : Message) → turnOf s h d .next ≡ holding g d 0 0 → Beside m (suc k) at (turnOf s h d .next)
+    restarts g p = idle g d 0 (r .drawn) (omega (arith, drawn d (r .drawn))) (λ u. omega arith) p
+
+    pub beside-turn : Beside m k at s → Beside m (suc k) at (turnOf s h d .next)
+    beside-turn (empty p) = empty (turned r p (empty-turn h d (r .half) (r .drawn)))
+    beside-turn (idle g w c hw l few p) =
+        go (eqb h 1) refl
+        (turned r p (waiting-turn g w (fine g s (ap (λ (s : Station). s .held) p) (r .ok) .valid) hw h d (r .half) (r .drawn) c l))
+      where
+        go : (b : Bool) → eqb h 1 ≡ b → turnOf s h d .next ≡ pick b (holding g d 0 0) (holding g w (c + 1) 0)
+            → Beside m (suc k) at (turnOf s h d .next)
+        go true e q = restarts g q
+        go false e q =
+            let clear : getD (burstOf m) k 0 ≡ 0 = omega (arith, carries, r .half, eqb-false h 1 e) in
+            let begun = clear-later m k clear in
+            let next : clearAt m (suc k) ≡ clearAt m k + 1 = clear-more m k short ∙ ap (counted (clearAt m k)) clear in
+            idle g w (c + 1) hw (omega (arith, few begun, clear-briefly m 0 k short clear, drawn w hw)) (λ u. omega (arith, few begun, next)) q
+    beside-turn (level g st a same) = go (ℕ-discrete (getD (burstOf g) k 0) h) (ℕ-discrete (k + 1) (burstLength g))
+      where
+        go : Dec (getD (burstOf g) k 0 ≡ h) → Dec (k + 1 ≡ burstLength g) → Beside m (suc k) at (turnOf s h d .next)
+        go (yes e) (yes x) = empty (along-ends r g k a e x)
+        go (yes e) (no x) =
+            level g st (along-turn r g k a e x)
+            (take-more g k (along-within r g k a) ∙ ap₂ (λ (l : List ℕ) (x : ℕ). l ++ (x ∷ [])) same (e ∙ sym carries) ∙ sym (take-more m k short))
+        go (no e) x = restarts g (along-yields r g k a e)

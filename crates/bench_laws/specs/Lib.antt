@@ -1,4 +1,6 @@
 pub mod Demand3
+pub mod Slots
 pub mod Bound
 pub mod Together
 pub mod ExportedRun
+pub mod RunInBytes

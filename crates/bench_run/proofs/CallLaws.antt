@@ -1,31 +1,30 @@
 -- Laws of calls one after the other.
 --
---     mask-below, mask-cons                    the number of which stations are DONE
---     bench-takes                              a call goes by its first n draws
---     refused-call-leaves                      RefusedCallLeaves
+--     mask-below, mask-cons, mask-beside       the number of which stations are DONE
+--     call-stations, call-counts               what a call leaves
+--     refused-call-leaves, as-many             RefusedCallLeaves; as many stations after any calls
 --     Calling, calling-first, calling-next     where a run of calls stands: lines and marks so far, the stations, the count
 --     draws-left, calling-last                 the next call's draws are there; what all calls leave
 use mathlib.Core.Path.{_≡_, refl, sym, ap, ap₂, subst, _∙_}
 use mathlib.Core.Bool.{Bool, true, false}
 use mathlib.Core.List.{List, [], _∷_, _++_, map-append, flatMap, append-nil}
 use Prim.Native.Nat.{ℕ, zero, suc, _+_, _-_, _*_, _/_, _%_, _^_, _≤_, _<_}
-use native.Mathlib.Nat.{pow-suc, le-refl, le-trans, add-zero, mul-suc, mul-zero, mul-le-mul-left}
+use native.Mathlib.Nat.{pow-suc, le-trans, add-zero, mul-suc, mul-zero, mul-le-mul-left}
 use native.Mathlib.Numerals.{add-one}
 use native.Mathlib.Omega.{arith}
 use lib.Pow.{pow-mono}
-use lib.ListN.{length, getD, set, take, drop, length-append, length-drop, length-set, length-map, drop-of-length-le}
-use lib.Seq.{drop-cons, set-at, append-snoc, take-take}
+use lib.ListN.{length, getD, set, take, drop, replicate, length-append, length-drop, length-set, length-map, drop-of-length-le, take-append-drop}
+use lib.Seq.{drop-cons, set-at, append-snoc, length-take-le}
 use Rattle.ground.specs.Choice.{pick}
-use Rattle.ground.specs.Refusals.{Cause, when, unless, judged}
 use Rattle.ground.specs.declared.Refusal.{Refusal}
-use Rattle.ground.proofs.Choices.{pick-both}
 use Rattle.ground.proofs.Lists.{flat-append, flat-length}
-use Rattle.station.specs.Benches.{turnAll, benchRefused, benchCauses, benchOf}
+use Rattle.station.specs.Benches.{turnAll, benchOn, mostStations, benchOf, beside}
 use Rattle.station.specs.declared.Station.{Station}
 use Rattle.station.specs.declared.bench.BenchAnswer.{BenchAnswer}
 use Rattle.station.specs.declared.bench.BenchAnswer.the-variants.{Line, Refused}
 use Rattle.station.specs.declared.bench.BenchTurn.{BenchTurn}
-use Rattle.bench_run.specs.Calls.{Moment, nextMoment, call, run, RefusedCallLeaves}
+use Rattle.station.proofs.BenchCases.{Judged, refuses, turns, bench-judged, length-kept, reads-the-first}
+use Rattle.bench_run.specs.Calls.{Moment, atStart, nextMoment, call, run, RefusedCallLeaves}
 use Rattle.bench_run.specs.BenchRuns.{drawsOf, callsOf, momentAfter, turnsOf, lineByte, lineBytes, countsAs, doneMask, markBytes}
 
 -- ---- the mask
@@ -51,55 +50,54 @@ mask-cons bs left mask bit d some within long e one =
     let low : doneMask (drop left bs) < 2 ^ 15 = le-trans (mask-below (drop left bs)) (pow-mono short) in
     omega (arith, value, low)
 
+-- more stations that are not DONE change nothing
+pub mask-beside : (bs : List Bool) (k : ℕ) → doneMask (bs ++ replicate k false) ≡ doneMask bs
+unfolding doneMask
+mask-beside [] zero = refl
+mask-beside [] (suc k) = omega (arith, mask-beside [] k)
+mask-beside (b ∷ bs) k = ap (λ (x : ℕ). pick b 1 0 + 2 * x) (mask-beside bs k)
+
 -- ---- one call
 
--- only the first n draws count
-pub bench-takes : (n : ℕ) (slots : List Station) (d e : List ℕ) → take n d ≡ take n e → benchOf n slots d ≡ benchOf n slots e
-unfolding benchOf turnAll
-bench-takes n slots d e same = rw same
+module _ (most n : ℕ) (now : Moment) (draws : List ℕ) where
+  abbrev turn : BenchTurn
+  turn = benchOn most n (now .stations) draws
 
-module _ (n : ℕ) (now : Moment) (draws : List ℕ) where
-  -- a call leaves the slots of its turn,
-  call-slots : call n now draws .slots ≡ benchOf n (now .slots) draws .slots
+  -- a call leaves the stations of its turn,
+  pub call-stations : call most n now draws .stations ≡ turn .slots
   unfolding call
-  call-slots = go (benchOf n (now .slots) draws) (benchOf n (now .slots) draws .answer)
+  call-stations = go turn (turn .answer)
     where
-      go : (o : BenchTurn) (a : BenchAnswer) → nextMoment now o a .slots ≡ o .slots
+      go : (o : BenchTurn) (a : BenchAnswer) → nextMoment now o a .stations ≡ o .slots
       go o (Line h) = refl
       go o (Refused why) = refl
 
   -- and one answer more where it was not refused
-  call-counts : length (call n now draws .past) ≡ length (now .past) + countsAs (benchOf n (now .slots) draws .answer)
+  pub call-counts : length (call most n now draws .past) ≡ length (now .past) + countsAs (turn .answer)
   unfolding call
-  call-counts = go (benchOf n (now .slots) draws) (benchOf n (now .slots) draws .answer)
+  call-counts = go turn (turn .answer)
     where
       go : (o : BenchTurn) (a : BenchAnswer) → length (nextMoment now o a .past) ≡ length (now .past) + countsAs a
       go o (Line h) = sym (add-one (length (now .past)))
       go o (Refused why) = sym (add-zero (length (now .past)))
 
--- ---- a call that is refused
-
--- what holds of what is done and of every refusal holds of what is judged
-either-way : {A : Type 0} (P : A → Type 0) (done : A) (refused : Refusal → A) → P done → ((why : Refusal) → P (refused why)) → (cs : List Cause)
-    → P (judged cs done refused)
-unfolding judged
-either-way P done refused p q [] = p
-either-way P done refused p q (when bad why ∷ cs) = pick-both P bad _ _ (q why) (either-way P done refused p q cs)
-either-way P done refused p q (unless fine why ∷ cs) = pick-both P fine _ _ (either-way P done refused p q cs) (q why)
-
-refused-slots : (n : ℕ) (slots : List Station) (draws : List ℕ) (why : Refusal) → benchOf n slots draws .answer ≡ Refused why
-    → benchOf n slots draws .slots ≡ slots
-unfolding benchOf turnAll
-refused-slots n slots draws =
-    either-way (λ (o : BenchTurn). (why : Refusal) → o .answer ≡ Refused why → o .slots ≡ slots) (turnAll n slots draws) (benchRefused slots)
-    (λ why e. cc) (λ w why e. refl) (benchCauses n slots draws)
+  -- a call that is refused leaves all
+  refused-leaves : {o : BenchTurn} → Judged most n (now .stations) draws o → (why : Refusal) → o .answer ≡ Refused why → nextMoment now o (o .answer) ≡ now
+  unfolding turnAll
+  refused-leaves (refuses w) why e = refl
+  refused-leaves (turns p m q r t) why e = cc
 
 pub refused-call-leaves : RefusedCallLeaves
 unfolding call
-refused-call-leaves n now draws why e =
-    let o = benchOf n (now .slots) draws in
-    let kept : List Station → Moment = λ s. record { slots = s; receiver = now .receiver; past = now .past } in
-    ap (λ (a : BenchAnswer). nextMoment now o a) e ∙ ap kept (refused-slots n (now .slots) draws why e)
+refused-call-leaves most n now draws why e = refused-leaves most n now draws (bench-judged most n (now .stations) draws) why e
+
+-- as many stations after any calls
+pub as-many : (most n : ℕ) (now : Moment) (calls : List (List ℕ)) → length (now .stations) ≡ n → length (run most n now calls .stations) ≡ n
+unfolding run
+as-many most n now [] e = e
+as-many most n now (draws ∷ calls) e =
+    ap length (call-stations most n (run most n now calls) draws)
+    ∙ length-kept most n (run most n now calls .stations) draws (as-many most n now calls e)
 
 -- ---- lists that grow at their end
 
@@ -111,20 +109,22 @@ put-next xs l j x e h =
     ∙ sym (append-snoc xs x (drop (suc j) l))
     ∙ ap (λ (k : ℕ). xs ++ (x ∷ []) ++ drop k l) (sym (add-one j))
 
-marks-length : (os : List BenchTurn) → length (flatMap markBytes os) ≡ 2 * length os
+pub marks-length : (os : List BenchTurn) → length (flatMap markBytes os) ≡ 2 * length os
 marks-length os = flat-length markBytes 2 os (λ o. refl)
 
-turns-length : (n : ℕ) (slots : List Station) (draws : List ℕ) (k : ℕ) → length (turnsOf n slots draws k) ≡ k
+pub turns-length : (n : ℕ) (stations : List Station) (draws : List ℕ) (k : ℕ) → length (turnsOf n stations draws k) ≡ k
 unfolding turnsOf
-turns-length n slots draws zero = refl
-turns-length n slots draws (suc k) =
-    length-append (turnsOf n slots draws k) _ ∙ add-one (length (turnsOf n slots draws k)) ∙ ap suc (turns-length n slots draws k)
+turns-length n stations draws zero = refl
+turns-length n stations draws (suc k) =
+    length-append (turnsOf n stations draws k) _ ∙ add-one (length (turnsOf n stations draws k)) ∙ ap suc (turns-length n stations draws k)
 
 -- ---- calls one after the other
 
--- after j calls
-pub record Calling (n : ℕ) (slots : List Station) (draws lines marks linesNow marksNow : List ℕ) (current : List Station) (count at j : ℕ) : Type 0 where
+-- after j calls of the stations in the first n slots, with others beyond
+pub record Calling (n : ℕ) (stations beyond : List Station) (draws lines marks linesNow marksNow : List ℕ) (current : List Station)
+    (count at j : ℕ) : Type 0 where
   pub most : n ≤ 16
+  pub many : length stations ≡ n
   pub whole : length draws ≡ n * length lines
   pub room : 2 * length lines ≤ length marks
   pub within : j ≤ length lines
@@ -132,16 +132,17 @@ pub record Calling (n : ℕ) (slots : List Station) (draws lines marks linesNow 
   pub marks-long : length marksNow ≡ length marks
   pub few : count ≤ j
   pub place : at ≡ n * j
-  pub standing : current ≡ momentAfter n slots draws j .slots
-  pub counting : count ≡ length (momentAfter n slots draws j .past)
-  pub lining : linesNow ≡ lineBytes (turnsOf n slots draws j) ++ drop j lines
-  pub marking : marksNow ≡ flatMap markBytes (turnsOf n slots draws j) ++ drop (2 * j) marks
+  pub standing : current ≡ momentAfter n stations draws j .stations ++ beyond
+  pub counting : count ≡ length (momentAfter n stations draws j .past)
+  pub lining : linesNow ≡ lineBytes (turnsOf n stations draws j) ++ drop j lines
+  pub marking : marksNow ≡ flatMap markBytes (turnsOf n stations draws j) ++ drop (2 * j) marks
 
-pub calling-first : (n : ℕ) (slots : List Station) (draws lines marks : List ℕ) → n ≤ 16 → length draws ≡ n * length lines → 2 * length lines ≤ length marks
-    → Calling n slots draws lines marks lines marks slots 0 0 0
+pub calling-first : (n : ℕ) (slots : List Station) (draws lines marks : List ℕ) → n ≤ length slots → n ≤ 16 → length draws ≡ n * length lines
+    → 2 * length lines ≤ length marks → Calling n (take n slots) (drop n slots) draws lines marks lines marks slots 0 0 0
 unfolding run callsOf turnsOf flatMap
-calling-first n slots draws lines marks most whole room = record {
+calling-first n slots draws lines marks few most whole room = record {
   most = most;
+  many = length-take-le n slots few;
   whole = whole;
   room = room;
   within = omega arith;
@@ -149,30 +150,30 @@ calling-first n slots draws lines marks most whole room = record {
   marks-long = refl;
   few = omega arith;
   place = sym (mul-zero n);
-  standing = refl;
+  standing = sym (take-append-drop n slots);
   counting = refl;
   lining = refl;
   marking = refl;
 }
 
-module _ {n : ℕ} {slots : List Station} {draws lines marks linesNow marksNow : List ℕ} {current : List Station} {count at j : ℕ}
-    (g : Calling n slots draws lines marks linesNow marksNow current count at j) where
-  abbrev turns : List BenchTurn
-  turns = turnsOf n slots draws j
+module _ {n : ℕ} {stations beyond : List Station} {draws lines marks linesNow marksNow : List ℕ} {current : List Station} {count at j : ℕ}
+    (g : Calling n stations beyond draws lines marks linesNow marksNow current count at j) where
+  abbrev sofar : List BenchTurn
+  sofar = turnsOf n stations draws j
 
   pub calling-last : length lines ≤ j
-      → (count ≡ length (momentAfter n slots draws (length lines) .past))
-      × ((linesNow ≡ lineBytes (turnsOf n slots draws (length lines)))
-      × (marksNow ≡ flatMap markBytes (turnsOf n slots draws (length lines)) ++ drop (2 * length lines) marks))
+      → (count ≡ length (momentAfter n stations draws (length lines) .past))
+      × ((linesNow ≡ lineBytes (turnsOf n stations draws (length lines)))
+      × (marksNow ≡ flatMap markBytes (turnsOf n stations draws (length lines)) ++ drop (2 * length lines) marks))
   calling-last end =
       let all : j ≡ length lines = omega (arith, g .within) in (
-        g .counting ∙ ap (λ (k : ℕ). length (momentAfter n slots draws k .past)) all,
+        g .counting ∙ ap (λ (k : ℕ). length (momentAfter n stations draws k .past)) all,
         (
           g .lining
-              ∙ ap (λ (l : List ℕ). lineBytes turns ++ l) (drop-of-length-le lines end)
-              ∙ append-nil (lineBytes turns)
-              ∙ ap (λ (k : ℕ). lineBytes (turnsOf n slots draws k)) all,
-          g .marking ∙ ap (λ (k : ℕ). flatMap markBytes (turnsOf n slots draws k) ++ drop (2 * k) marks) all,
+              ∙ ap (λ (l : List ℕ). lineBytes sofar ++ l) (drop-of-length-le lines end)
+              ∙ append-nil (lineBytes sofar)
+              ∙ ap (λ (k : ℕ). lineBytes (turnsOf n stations draws k)) all,
+          g .marking ∙ ap (λ (k : ℕ). flatMap markBytes (turnsOf n stations draws k) ++ drop (2 * k) marks) all,
         ),
       )
 
@@ -185,50 +186,59 @@ module _ {n : ℕ} {slots : List Station} {draws lines marks linesNow marksNow :
         omega (arith, g .place, g .whole)
 
     module _ (o : BenchTurn) (own : List ℕ) (is : o ≡ benchOf n current own) (same : take n own ≡ take n (drop at draws)) where
-      turn-is : benchOf n (momentAfter n slots draws j .slots) (drawsOf n draws j) ≡ o
+      -- the call of the stations alone
+      abbrev core : BenchTurn
+      core = benchOn mostStations n (momentAfter n stations draws j .stations) (drawsOf n draws j)
+
+      own-draws : take n own ≡ drawsOf n draws j
+      own-draws = same ∙ ap (λ (k : ℕ). take n (drop k draws)) (g .place)
+
+      turn-is : o ≡ beside beyond core
       turn-is =
-          ap (λ (s : List Station). benchOf n s (drawsOf n draws j)) (sym (g .standing))
-          ∙ bench-takes n current (drawsOf n draws j) own
-          (take-take n n (drop (n * j) draws) (le-refl n) ∙ ap (λ (k : ℕ). take n (drop k draws)) (sym (g .place)) ∙ sym same)
-          ∙ sym is
+          is
+          ∙ ap (λ (s : List Station). benchOf n s own) (g .standing)
+          ∙ reads-the-first n (momentAfter n stations draws j .stations) beyond own (as-many mostStations n (atStart stations) (callsOf n draws j) (g .many))
+          ∙ ap (λ (d : List ℕ). beside beyond (benchOn mostStations n (momentAfter n stations draws j .stations) d)) own-draws
 
-      one-more : turnsOf n slots draws (suc j) ≡ turns ++ (o ∷ [])
+      answer-is : o .answer ≡ core .answer
+      answer-is = ap (λ (t : BenchTurn). t .answer) turn-is
+
+      mask-is : doneMask (o .done) ≡ doneMask (core .done)
+      mask-is = ap (λ (t : BenchTurn). doneMask (t .done)) turn-is ∙ mask-beside (core .done) (length beyond)
+
+      lined : {x : ℕ} → x ≡ lineByte (o .answer) → lineBytes (turnsOf n stations draws (suc j)) ≡ lineBytes sofar ++ (x ∷ [])
       unfolding turnsOf
-      one-more = ap (λ (x : BenchTurn). turns ++ (x ∷ [])) turn-is
-
-      lined : {x : ℕ} → x ≡ lineByte (o .answer) → lineBytes (turnsOf n slots draws (suc j)) ≡ lineBytes turns ++ (x ∷ [])
       lined e =
-          ap lineBytes one-more
-          ∙ map-append (λ (t : BenchTurn). lineByte (t .answer)) turns (o ∷ [])
-          ∙ ap (λ (y : ℕ). lineBytes turns ++ (y ∷ [])) (sym e)
+          map-append (λ (t : BenchTurn). lineByte (t .answer)) sofar (core ∷ [])
+          ∙ ap (λ (y : ℕ). lineBytes sofar ++ (y ∷ [])) (sym (e ∙ ap lineByte answer-is))
 
       marked : {m : ℕ} → m ≡ doneMask (o .done)
-          → flatMap markBytes (turnsOf n slots draws (suc j)) ≡ flatMap markBytes turns ++ (m / 256 % 256 ∷ []) ++ (m % 256 ∷ [])
-      unfolding flatMap
+          → flatMap markBytes (turnsOf n stations draws (suc j)) ≡ flatMap markBytes sofar ++ (m / 256 % 256 ∷ []) ++ (m % 256 ∷ [])
+      unfolding flatMap turnsOf
       marked {m} e =
-          ap (flatMap markBytes) one-more
-          ∙ flat-append markBytes turns (o ∷ [])
-          ∙ ap (λ (y : ℕ). flatMap markBytes turns ++ (y / 256 % 256 ∷ y % 256 ∷ [])) (sym e)
-          ∙ sym (append-snoc (flatMap markBytes turns) (m / 256 % 256) (m % 256 ∷ []))
+          flat-append markBytes sofar (core ∷ [])
+          ∙ ap (λ (y : ℕ). flatMap markBytes sofar ++ (y / 256 % 256 ∷ y % 256 ∷ [])) (sym (e ∙ mask-is))
+          ∙ sym (append-snoc (flatMap markBytes sofar) (m / 256 % 256) (m % 256 ∷ []))
 
       pub calling-next : {x m k : ℕ} → x ≡ lineByte (o .answer) → m ≡ doneMask (o .done) → (k ≡ countsAs (o .answer)) × (k ≤ 1)
-          → Calling n slots draws lines marks
+          → Calling n stations beyond draws lines marks
           (set linesNow j x) (set (set marksNow (2 * j) (m / 256 % 256)) (2 * j + 1) (m % 256)) (o .slots) (count + k) (at + n) (j + 1)
       unfolding run callsOf
       calling-next {x} {m} {k} ex em ek =
-          let now = momentAfter n slots draws j in
+          let now = momentAfter n stations draws j in
           let hi = m / 256 % 256 in
           let lo = m % 256 in
-          let before = flatMap markBytes turns in
-          let many = turns-length n slots draws j in
-          let long = marks-length turns in
+          let before = flatMap markBytes sofar in
+          let each = turns-length n stations draws j in
+          let long = marks-length sofar in
           let room = g .room in
           let two : 2 * j + 1 + 1 ≡ 2 * suc j = omega arith in
           let linesNext = set linesNow j x in
           let marksNext = set (set marksNow (2 * j) hi) (2 * j + 1) lo in
-          subst (λ (i : ℕ). Calling n slots draws lines marks linesNext marksNext (o .slots) (count + k) (at + n) i) (sym (add-one j))
+          subst (λ (i : ℕ). Calling n stations beyond draws lines marks linesNext marksNext (o .slots) (count + k) (at + n) i) (sym (add-one j))
           (record {
             most = g .most;
+            many = g .many;
             whole = g .whole;
             room = room;
             within = more;
@@ -236,13 +246,15 @@ module _ {n : ℕ} {slots : List Station} {draws lines marks linesNow marksNow :
             marks-long = length-set (set marksNow (2 * j) hi) (2 * j + 1) lo ∙ length-set marksNow (2 * j) hi ∙ g .marks-long;
             few = omega (arith, g .few, ek .1);
             place = ap (λ (p : ℕ). p + n) (g .place) ∙ sym (mul-suc n j);
-            standing = sym (call-slots n now (drawsOf n draws j) ∙ ap (λ (t : BenchTurn). t .slots) turn-is);
+            standing =
+                ap (λ (t : BenchTurn). t .slots) turn-is
+                ∙ ap (λ (ss : List Station). ss ++ beyond) (sym (call-stations mostStations n now (drawsOf n draws j)));
             counting =
-                ap₂ (λ (a b : ℕ). a + b) (g .counting) (ek .0 ∙ ap (λ (t : BenchTurn). countsAs (t .answer)) (sym turn-is))
-                ∙ sym (call-counts n now (drawsOf n draws j));
+                ap₂ (λ (a b : ℕ). a + b) (g .counting) (ek .0 ∙ ap countsAs answer-is)
+                ∙ sym (call-counts mostStations n now (drawsOf n draws j));
             lining =
                 ap (λ (l : List ℕ). set l j x) (g .lining)
-                ∙ put-next (lineBytes turns) lines j x (length-map turns _ ∙ many) more
+                ∙ put-next (lineBytes sofar) lines j x (length-map sofar _ ∙ each) more
                 ∙ ap₂ (λ (l : List ℕ) (i : ℕ). l ++ drop i lines) (sym (lined ex)) (add-one j);
             marking =
                 ap (λ (l : List ℕ). set (set l (2 * j) hi) (2 * j + 1) lo) (g .marking)

@@ -1,15 +1,14 @@
 -- A list of bench calls with a receiver behind them (01, 'Station and bench'): what each call is given, and what is kept of its answer.
 -- Demand 3 speaks of these calls, and the exported run makes them.
-use Prim.Native.Nat.{ℕ, _≤_}
+use Prim.Native.Nat.{ℕ}
 use mathlib.Core.Path.{_≡_}
 use mathlib.Core.Bool.{Bool}
 use mathlib.Core.List.{List, [], _∷_, map}
-use lib.ListN.{length}
 use Rattle.ground.specs.declared.Refusal.{Refusal}
 use Rattle.receiver.specs.Receivers.{freshReceiver, stepOf}
 use Rattle.receiver.specs.declared.Receiver.{Receiver}
 use Rattle.receiver.specs.declared.Event.{Event}
-use Rattle.station.specs.Benches.{benchOf}
+use Rattle.station.specs.Benches.{benchOn}
 use Rattle.station.specs.declared.Station.{Station}
 use Rattle.station.specs.declared.bench.BenchAnswer.{BenchAnswer}
 use Rattle.station.specs.declared.bench.BenchAnswer.the-variants.{Line, Refused}
@@ -21,9 +20,9 @@ pub record Answered : Type 0 where
   pub done : List Bool
   pub event : Event
 
--- between two calls: the slots, the receiver, and the answers so far, newest first
+-- between two calls: the stations, the receiver, and the answers so far, newest first
 pub record Moment : Type 0 where
-  pub slots : List Station
+  pub stations : List Station
   pub receiver : Receiver
   pub past : List Answered
 
@@ -35,32 +34,29 @@ eventsIn past = map (λ (a : Answered). a .event) past
 
 -- "The fresh receiver is hunting and has received no half-cycle."
 abbrev pub atStart : List Station → Moment
-atStart slots = record { slots = slots; receiver = freshReceiver; past = [] }
+atStart stations = record { stations = stations; receiver = freshReceiver; past = [] }
 
 -- "After each bench call that is not refused, and only then, the receiver is called once with the line's half-cycle just answered, in
 -- the state that its own last call returned or left."
 abbrev pub nextMoment : Moment → BenchTurn → BenchAnswer → Moment
 nextMoment now turn (Line h) = record {
-  slots = turn .slots;
+  stations = turn .slots;
   receiver = stepOf (now .receiver) h .next;
   past = record { line = h; done = turn .done; event = stepOf (now .receiver) h .event } ∷ now .past;
 }
-nextMoment now turn (Refused why) = record { slots = turn .slots; receiver = now .receiver; past = now .past }
+nextMoment now turn (Refused why) = record { stations = turn .slots; receiver = now .receiver; past = now .past }
 
--- "Each bench call, a refused one too, gets the same n and, in their slots, all n stations as the call before it returned or left them."
-unfoldable pub call : ℕ → Moment → List ℕ → Moment
-call n now draws = nextMoment now (benchOf n (now .slots) draws) (benchOf n (now .slots) draws .answer)
+-- "Each bench call, a refused one too, gets the same n and .. all n stations as the call before it returned or left them.", whatever the draws;
+-- at most so many stations are allowed
+unfoldable pub call : ℕ → ℕ → Moment → List ℕ → Moment
+call most n now draws = nextMoment now (benchOn most n (now .stations) draws) (benchOn most n (now .stations) draws .answer)
 
 -- the calls of a list, newest first like their answers, each given by its draws
-unfoldable pub run : ℕ → Moment → List (List ℕ) → Moment
-run n now [] = now
-run n now (draws ∷ earlier) = call n (run n now earlier) draws
+unfoldable pub run : ℕ → ℕ → Moment → List (List ℕ) → Moment
+run most n now [] = now
+run most n now (draws ∷ earlier) = call most n (run most n now earlier) draws
 
 -- a refused call leaves the stations, the receiver and the answers so far: proofs/CallLaws.antt
 abbrev pub RefusedCallLeaves : Type 0
-RefusedCallLeaves = (n : ℕ) (now : Moment) (draws : List ℕ) (why : Refusal) → benchOf n (now .slots) draws .answer ≡ Refused why → call n now draws ≡ now
-
--- the draws are whatever numbers, but there is "a draw for each" of the n stations
-abbrev pub Drawn : ℕ → List (List ℕ) → Type 0
-Drawn n [] = Unit {0}
-Drawn n (draws ∷ earlier) = (n ≤ length draws) × Drawn n earlier
+RefusedCallLeaves = (most n : ℕ) (now : Moment) (draws : List ℕ) (why : Refusal) → benchOn most n (now .stations) draws .answer ≡ Refused why
+    → call most n now draws ≡ now

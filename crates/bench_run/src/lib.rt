@@ -2,12 +2,13 @@
 use ground::CountAnswer;
 use ground::Refusal;
 use ground::refusal_number;
+use station::LoadAnswer;
+use station::Loading;
 use station::Station;
 use station::bench::BenchAnswer;
 use station::bench::BenchTurn;
 use station::bench::SLOTS;
 use station::bench::half_cycle;
-use station::draw_ok;
 use station::empty;
 use station::load;
 use wire::MessageRead;
@@ -15,14 +16,23 @@ use wire::message_from;
 ghost use mathlib.Core.Path.{_≡_};
 ghost use mathlib.Core.List.{_++_, flatMap};
 ghost use Prim.Native.Nat.{_+_, _*_, _/_, _≤_};
-ghost use lib.ListN.{length, take, drop};
+ghost use lib.ListN.{length, take, drop, replicate};
 ghost use Rattle.ground.specs.Choice.{pick};
-ghost use Rattle.ground.specs.Refusals.{countReport};
-ghost use Rattle.station.specs.Benches.{drawsOk};
+ghost use Rattle.ground.specs.Refusals.{judged, countReport};
+ghost use Rattle.ground.specs.declared.CountAnswer.the-variants.{Done, Refused};
+ghost use Rattle.station.specs.Stations.{emptyStation};
+ghost use Rattle.station.specs.Benches.{mostStations};
+ghost use Rattle.station.specs.declared.LoadAnswer.the-variants.{Loaded};
 ghost use Rattle.wire.specs.Messages.{messageIn, saysMessage};
-ghost use Rattle.bench_run.specs.BenchRuns.{allSay, loadedBy, slotsFrom, momentAfter, turnsOf, lineByte, lineBytes, markBytes, countsAs};
-ghost use Rattle.bench_run.specs.BenchRuns.{doneMask};
+ghost use Rattle.bench_run.specs.BenchRuns.{allSay, loadingBy, loadings, loadsAnswer, stationsFrom, momentAfter, turnsOf};
+ghost use Rattle.bench_run.specs.BenchRuns.{lineByte, lineBytes, markBytes, countsAs, doneMask, callCauses};
 ghost use Rattle.bench_run.specs.BenchRuns.{lent, runAnswer, runReport, linesAfter, marksAfter};
+
+// What loading all stations answers, and the slots with them.
+pub(crate) struct Loads {
+    answer: LoadAnswer,
+    slots: [Station; 16],
+}
 
 // The message that stands at a place.
 fn message_at(messages: &[u8], at: usize) -> MessageRead
@@ -63,47 +73,50 @@ fn messages_fine(messages: &[u8]) -> bool
     true
 }
 
-// Whether every draw is 8 to 10.
-fn draws_fine(draws: &[u8]) -> bool
-    ensures { λ r. ⌜ r ≡ drawsOk (now (draws .entry)) ⌝ }
-{
-    let mut i: usize = 0;
-    while i < draws.len() {
-        if !draw_ok(draws[i]) {
-            return false;
-        }
-        i += 1;
-    }
-    true
-}
-
-// An empty station loaded with a message, and left empty where there is none.
-fn loaded_by(read: MessageRead, draw: u8) -> Station
-    ensures { λ r. ⌜ r ≡ loadedBy read draw ⌝ }
+// What loading an empty station with the message that was read answers and leaves. Where none was read, none is loaded.
+fn loading_by(read: MessageRead, draw: u8) -> Loading
+    ensures { λ r. ⌜ r ≡ loadingBy read draw ⌝ }
 {
     match read {
-        MessageRead::Message(m) => {
-            let loading = load(empty(), m, draw);
-            let next = loading.next;
-            next
-        }
-        MessageRead::Refused(_) => empty(),
+        MessageRead::Message(m) => load(empty(), m, draw),
+        MessageRead::Refused(why) => Loading {
+            answer: LoadAnswer::Refused(why),
+            next: empty(),
+        },
     }
 }
 
-// The slots of a bench: a station loaded for each draw, and empty ones past the last.
-fn slots_from(messages: &[u8], loads: &[u8]) -> [Station; 16]
+// What loading a station for each draw answers, and the slots: empty ones past the last station.
+fn load_all(messages: &[u8], loads: &[u8]) -> Loads
     requires { ⌜ (length (now loads) ≤ 16) × (5 * length (now loads) ≤ length (now messages)) ⌝ }
-    ensures { λ r. ⌜ r ≡ slotsFrom (now (messages .entry)) (now (loads .entry)) ⌝ }
+    ensures answer { λ r. ⌜ r .answer ≡ loadsAnswer (loadings (now (messages .entry)) (now (loads .entry))) ⌝ }
+    ensures slots { λ r. ⌜ (r .answer ≡ Loaded
+        → (r .slots ≡ stationsFrom (loadings (now (messages .entry)) (now (loads .entry)))
+        ++ drop (length (now (loads .entry))) (replicate mostStations emptyStation))) ⌝ }
 {
     let spare = empty();
     let mut slots = [spare; 16];
     let mut i: usize = 0;
     while i < loads.len() {
-        slots[i] = loaded_by(message_at(messages, 5 * i), loads[i]);
+        let loading = loading_by(message_at(messages, 5 * i), loads[i]);
+        let answer = loading.answer;
+        match answer {
+            LoadAnswer::Refused(why) => {
+                return Loads {
+                    answer: LoadAnswer::Refused(why),
+                    slots: slots,
+                };
+            }
+            LoadAnswer::Loaded => {}
+        }
+        let next = loading.next;
+        slots[i] = next;
         i += 1;
     }
-    slots
+    Loads {
+        answer: LoadAnswer::Loaded,
+        slots: slots,
+    }
 }
 
 // The draws of one call, and 0 past the last station.
@@ -169,11 +182,11 @@ fn run_all(
     lines: &mut [u8],
     marks: &mut [u8],
 ) -> usize
-    requires { ⌜ (n ≤ 16) × (length (now draws) ≡ n * length (now lines)) × (2 * length (now lines) ≤ length (now marks)) ⌝ }
-    ensures count { λ r. ⌜ r ≡ length (momentAfter n slots (now (draws .entry)) (length (now (lines .entry))) .past) ⌝ }
-    ensures lines { λ _. ⌜ now (lines .exit) ≡ lineBytes (turnsOf n slots (now (draws .entry)) (length (now (lines .entry)))) ⌝ }
+    requires { ⌜ (n ≤ length slots) × (n ≤ 16) × (length (now draws) ≡ n * length (now lines)) × (2 * length (now lines) ≤ length (now marks)) ⌝ }
+    ensures count { λ r. ⌜ r ≡ length (momentAfter n (take n slots) (now (draws .entry)) (length (now (lines .entry))) .past) ⌝ }
+    ensures lines { λ _. ⌜ now (lines .exit) ≡ lineBytes (turnsOf n (take n slots) (now (draws .entry)) (length (now (lines .entry)))) ⌝ }
     ensures marks { λ _. ⌜ now (marks .exit)
-        ≡ flatMap markBytes (turnsOf n slots (now (draws .entry)) (length (now (lines .entry))))
+        ≡ flatMap markBytes (turnsOf n (take n slots) (now (draws .entry)) (length (now (lines .entry))))
         ++ drop (2 * length (now (lines .entry))) (now (marks .entry)) ⌝ }
 {
     let mut turn = BenchTurn {
@@ -198,6 +211,36 @@ fn run_all(
         j += 1;
     }
     count
+}
+
+// The calls of n loaded stations, where there is a draw for each station and call, and room for the marks.
+fn run_loaded(
+    slots: [Station; 16],
+    n: usize,
+    draws: &[u8],
+    lines: &mut [u8],
+    marks: &mut [u8],
+) -> CountAnswer
+    requires { ⌜ (1 ≤ n) × (n ≤ 16) ⌝ }
+    ensures answer { λ r. ⌜ r ≡ judged (callCauses n (now (draws .entry)) (now (lines .entry)) (now (marks .entry)))
+        (Done (length (momentAfter n (take n slots) (now (draws .entry)) (length (now (lines .entry))) .past))) Refused ⌝ }
+    ensures lines { λ _. ⌜ now (lines .exit) ≡ judged (callCauses n (now (draws .entry)) (now (lines .entry)) (now (marks .entry)))
+        (lineBytes (turnsOf n (take n slots) (now (draws .entry)) (length (now (lines .entry))))) (λ why. now (lines .entry)) ⌝ }
+    ensures marks { λ _. ⌜ now (marks .exit) ≡ judged (callCauses n (now (draws .entry)) (now (lines .entry)) (now (marks .entry)))
+        (flatMap markBytes (turnsOf n (take n slots) (now (draws .entry)) (length (now (lines .entry))))
+        ++ drop (2 * length (now (lines .entry))) (now (marks .entry))) (λ why. now (marks .entry)) ⌝ }
+{
+    let calls = lines.len();
+    if draws.len() / n != calls {
+        return CountAnswer::Refused(Refusal::Draw);
+    }
+    if draws.len() % n != 0 {
+        return CountAnswer::Refused(Refusal::Draw);
+    }
+    if marks.len() / 2 < calls {
+        return CountAnswer::Refused(Refusal::Short);
+    }
+    CountAnswer::Done(run_all(slots, n, draws, lines, marks))
 }
 
 // Loads a station for each draw of loads, calls the bench once for each byte of lines, and answers how many calls were not refused.
@@ -230,18 +273,11 @@ pub fn run(
     if messages.len() != 5 * n {
         return CountAnswer::Refused(Refusal::State);
     }
-    if !draws_fine(loads) {
-        return CountAnswer::Refused(Refusal::Draw);
+    let loaded = load_all(messages, loads);
+    let answer = loaded.answer;
+    let slots = loaded.slots;
+    match answer {
+        LoadAnswer::Refused(why) => CountAnswer::Refused(why),
+        LoadAnswer::Loaded => run_loaded(slots, n, draws, lines, marks),
     }
-    let calls = lines.len();
-    if draws.len() / n != calls {
-        return CountAnswer::Refused(Refusal::Short);
-    }
-    if draws.len() % n != 0 {
-        return CountAnswer::Refused(Refusal::Short);
-    }
-    if marks.len() / 2 < calls {
-        return CountAnswer::Refused(Refusal::Short);
-    }
-    CountAnswer::Done(run_all(slots_from(messages, loads), n, draws, lines, marks))
 }

@@ -6,6 +6,7 @@
 --     bits-split, value-of-bits                                 the bits of a number in two parts; the number read back
 --     frames-one-to-one, no-frame-begins-another                FramesOneToOne, NoFrameBeginsAnother
 use mathlib.Core.Path.{_≡_, refl, sym, ap, ap₂, subst, _∙_}
+use mathlib.Core.Bool.{true}
 use mathlib.Core.List.{List, [], _∷_, _++_, append-nil}
 use Prim.Native.Nat.{ℕ, zero, suc, _+_, _-_, _*_, _/_, _%_, _^_, _≤_, _<_}
 use native.Mathlib.Nat.{suc-add, zero-add, add-comm, mod-eq-of-lt, mod-lt, mod-one, suc-ne-zero}
@@ -17,7 +18,7 @@ use lib.Pow.{shr-shr, mod-pow-add}
 use lib.ListN.{length, getD, take, drop, length-append, List·getD-append}
 use lib.Seq.{take-at, getD-append-add}
 use Rattle.message.specs.Codes.{codeOf}
-use Rattle.message.specs.Messages.{BytesOk}
+use Rattle.message.specs.Messages.{messageOk}
 use Rattle.message.specs.Words.{wordOf, bitCount, nine, standardOf}
 use Rattle.message.specs.declared.Message.{Message}
 use Rattle.message.specs.declared.Message.the-variants.{Address, Function as Command, Extended}
@@ -136,20 +137,20 @@ same-bits m n e =
     ∙ append-nil (bitsOf (bitCount n) (wordOf n))
 
 -- the word of a message, from its bits
-word-of-bits : (m : Message) → BytesOk m → valueOf (bitsOf (bitCount m) (wordOf m)) ≡ wordOf m
-word-of-bits m b = value-of-bits (bitCount m) (wordOf m) ∙ mod-eq-of-lt (word-below m b)
+word-of-bits : (m : Message) → messageOk m ≡ true → valueOf (bitsOf (bitCount m) (wordOf m)) ≡ wordOf m
+word-of-bits m t = value-of-bits (bitCount m) (wordOf m) ∙ mod-eq-of-lt (word-below m t)
 
 pub frames-one-to-one : FramesOneToOne
-frames-one-to-one m n tm bm tn bn e =
+frames-one-to-one m n tm tn e =
     let eb = same-bits m n e in
     let counts = sym (bits-length (bitCount m) (wordOf m)) ∙ ap length eb ∙ bits-length (bitCount n) (wordOf n) in
-    let words = sym (word-of-bits m bm) ∙ ap valueOf eb ∙ word-of-bits n bn in
-    words-one-to-one m n tm bm tn bn (ap₂ {C = Word} (λ (b k : ℕ). record { bits = b; count = k }) words counts)
+    let words = sym (word-of-bits m tm) ∙ ap valueOf eb ∙ word-of-bits n tn in
+    words-one-to-one m n tm tn (ap₂ {C = Word} (λ (b k : ℕ). record { bits = b; count = k }) words counts)
 
 -- a standard frame's nine bits are not those that begin an extended frame, which say another thing
-module _ (m : Message) (count : bitCount m ≡ 9) (read : standardOf (wordOf m) ≡ Says m) (bm : BytesOk m) where
-  begins-no-extended : (h u d c : ℕ) (rest : List ℕ) → d < 256 → c < 256 → frameOf (Extended h u d c) ≡ frameOf m ++ rest → ⊥
-  begins-no-extended h u d c rest hd hc e =
+module _ (m : Message) (ok : messageOk m ≡ true) (count : bitCount m ≡ 9) (read : standardOf (wordOf m) ≡ Says m) where
+  begins-no-extended : (h u d c : ℕ) (rest : List ℕ) → messageOk (Extended h u d c) ≡ true → frameOf (Extended h u d c) ≡ frameOf m ++ rest → ⊥
+  begins-no-extended h u d c rest t e =
       let w : ℕ = wordOf (Extended h u d c) in
       let bits : bitsOf 9 (w / 2 ^ 20) ++ bitsOf 20 w ≡ bitsOf (bitCount m) (wordOf m) ++ firsts rest =
       sym (bits-split 9 20 w)
@@ -161,14 +162,14 @@ module _ (m : Message) (count : bitCount m ≡ 9) (read : standardOf (wordOf m) 
       sym (take-at (bitsOf 9 (w / 2 ^ 20)) (bitsOf 20 w) 9 (bits-length 9 (w / 2 ^ 20)))
       ∙ ap (take 9) bits
       ∙ take-at (bitsOf (bitCount m) (wordOf m)) (firsts rest) 9 (bits-length (bitCount m) (wordOf m) ∙ count) in
-      let head : w / 2 ^ 20 ≡ nine (codeOf h) 7 1 = head-of-extended h u d c hd hc in
+      let head : w / 2 ^ 20 ≡ nine (codeOf h) 7 1 = head-of-extended h u d c t in
       let small : nine (codeOf h) 7 1 < 2 ^ 9 = omega (arith, code-below h) in
       let same : nine (codeOf h) 7 1 ≡ wordOf m =
       sym (mod-eq-of-lt small)
       ∙ ap (λ (n : ℕ). n % 2 ^ 9) (sym head)
       ∙ sym (value-of-bits 9 (w / 2 ^ 20))
       ∙ ap valueOf first
-      ∙ word-of-bits m bm in
+      ∙ word-of-bits m ok in
       let says : More ≡ Says m = sym (standard-of-head h) ∙ ap standardOf same ∙ read in
       let z : _≡_ {A = ℕ} 0 1 = cc in
       omega arith
@@ -182,17 +183,17 @@ nothing-left m n rest hl e = empty rest (omega (arith, frame-length m, frame-len
     empty (x ∷ xs) h = absurd (suc-ne-zero (length xs) h)
 
 pub no-frame-begins-another : NoFrameBeginsAnother
-no-frame-begins-another (Address h u) (Extended h′ u′ d c) rest t bm bn e =
-    absurd (begins-no-extended (Address h u) refl (standard-of-address h u t) bm h′ u′ d c rest (bn .0) (bn .1) e)
-no-frame-begins-another (Command h f) (Extended h′ u′ d c) rest t bm bn e =
-    absurd (begins-no-extended (Command h f) refl (standard-of-function h f t) bm h′ u′ d c rest (bn .0) (bn .1) e)
-no-frame-begins-another (Address h u) (Address h′ u′) rest t bm bn e = nothing-left (Address h u) (Address h′ u′) rest (lit≤ tt) e
-no-frame-begins-another (Address h u) (Command h′ f′) rest t bm bn e = nothing-left (Address h u) (Command h′ f′) rest (lit≤ tt) e
-no-frame-begins-another (Command h f) (Address h′ u′) rest t bm bn e = nothing-left (Command h f) (Address h′ u′) rest (lit≤ tt) e
-no-frame-begins-another (Command h f) (Command h′ f′) rest t bm bn e = nothing-left (Command h f) (Command h′ f′) rest (lit≤ tt) e
-no-frame-begins-another (Extended h u d c) (Address h′ u′) rest t bm bn e =
+no-frame-begins-another (Address h u) (Extended h′ u′ d c) rest tm tn e =
+    absurd (begins-no-extended (Address h u) tm refl (standard-of-address h u tm) h′ u′ d c rest tn e)
+no-frame-begins-another (Command h f) (Extended h′ u′ d c) rest tm tn e =
+    absurd (begins-no-extended (Command h f) tm refl (standard-of-function h f tm) h′ u′ d c rest tn e)
+no-frame-begins-another (Address h u) (Address h′ u′) rest tm tn e = nothing-left (Address h u) (Address h′ u′) rest (lit≤ tt) e
+no-frame-begins-another (Address h u) (Command h′ f′) rest tm tn e = nothing-left (Address h u) (Command h′ f′) rest (lit≤ tt) e
+no-frame-begins-another (Command h f) (Address h′ u′) rest tm tn e = nothing-left (Command h f) (Address h′ u′) rest (lit≤ tt) e
+no-frame-begins-another (Command h f) (Command h′ f′) rest tm tn e = nothing-left (Command h f) (Command h′ f′) rest (lit≤ tt) e
+no-frame-begins-another (Extended h u d c) (Address h′ u′) rest tm tn e =
     nothing-left (Extended h u d c) (Address h′ u′) rest (lit≤ tt) e
-no-frame-begins-another (Extended h u d c) (Command h′ f′) rest t bm bn e =
+no-frame-begins-another (Extended h u d c) (Command h′ f′) rest tm tn e =
     nothing-left (Extended h u d c) (Command h′ f′) rest (lit≤ tt) e
-no-frame-begins-another (Extended h u d c) (Extended h′ u′ d′ c′) rest t bm bn e =
+no-frame-begins-another (Extended h u d c) (Extended h′ u′ d′ c′) rest tm tn e =
     nothing-left (Extended h u d c) (Extended h′ u′ d′ c′) rest (lit≤ tt) e

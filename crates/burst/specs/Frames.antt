@@ -6,7 +6,7 @@ use mathlib.Core.List.{List, [], _∷_, _++_}
 use lib.ListN.{length}
 use Rattle.message.specs.declared.Message.{Message}
 use Rattle.message.specs.declared.Message.the-variants.{Address, Function as Command, Extended}
-use Rattle.message.specs.Messages.{messageOk, BytesOk}
+use Rattle.message.specs.Messages.{messageOk}
 use Rattle.message.specs.Words.{wordOf, bitCount}
 
 -- the k lowest bits of a number, "highest first"
@@ -47,9 +47,9 @@ BurstLengths = (m : Message) → length (burstOf m) ≡ burstLength m
 
 -- frames tell messages apart: two valid messages with equal frames are equal
 abbrev pub FramesOneToOne : Type 0
-FramesOneToOne = (m n : Message) → messageOk m ≡ true → BytesOk m → messageOk n ≡ true → BytesOk n → frameOf m ≡ frameOf n → m ≡ n
+FramesOneToOne = (m n : Message) → messageOk m ≡ true → messageOk n ≡ true → frameOf m ≡ frameOf n → m ≡ n
 
 -- no frame is a proper beginning of another
 abbrev pub NoFrameBeginsAnother : Type 0
 NoFrameBeginsAnother =
-    (m n : Message) (rest : List ℕ) → messageOk m ≡ true → BytesOk m → BytesOk n → frameOf n ≡ frameOf m ++ rest → rest ≡ []
+    (m n : Message) (rest : List ℕ) → messageOk m ≡ true → messageOk n ≡ true → frameOf n ≡ frameOf m ++ rest → rest ≡ []

@@ -5,6 +5,7 @@
 --     code-below, number-below               codes and numbers are below 16
 --     meaning-of-function, function-of-meaning     a function's code read back, both ways
 --     extended-meaning, function-code-below        code 7 alone is extended; function codes are below 16
+--     extended-below                               the four numbers of a valid extended message; data and command are bytes
 --     same-is-equal                                SameIsEqual
 use mathlib.Core.Path.{_≡_, refl, sym, ap, ap₂, subst, _∙_}
 use mathlib.Core.Bool.{Bool, true, false, false≢true, _&&_, and-eq-true-iff}
@@ -12,15 +13,15 @@ use mathlib.Core.List.{List, [], _∷_}
 use Prim.Native.Nat.{ℕ, _≤_, _<_}
 use native.Mathlib.Decide.{decLt}
 use native.Mathlib.Omega.{arith}
-use borrow.Author.Tests.{eqb-true, ltb-true, eq-eqb}
+use borrow.Author.Tests.{eqb-true, ltb-true, leb-true, eq-eqb}
 use lib.ListN.{List·getD-eq-default}
-use Rattle.ground.proofs.Choices.{both}
-use lib.Dec.{eqb, ltb, lit<}
+use Rattle.ground.proofs.Choices.{both, both-below}
+use lib.Dec.{eqb, ltb, leb, lit<}
 use Rattle.ground.specs.Text.{bytesOf, bytesFrom}
 use Rattle.message.specs.Codes.{lineCodes, placeIn, codeOf, numberOf, functionNames, nameAt}
 use Rattle.message.specs.Codes.{functionCode, meanings, meaningOf, functionRead, functionAnswer}
 use Rattle.message.specs.Codes.{CodesOneToOne, NamesOneToOne, CodesReadBack}
-use Rattle.message.specs.Messages.{sameMessage, SameIsEqual}
+use Rattle.message.specs.Messages.{messageOk, sameMessage, SameIsEqual}
 use Rattle.message.specs.declared.Message.{Message}
 use Rattle.message.specs.declared.Message.the-variants.{Address, Function as Command, Extended as Longer}
 use Rattle.message.specs.declared.codes.FunctionRead.the-variants.{Function as Is}
@@ -165,6 +166,15 @@ codes-read-back = record {
 }
 
 -- ---- one message
+
+pub extended-below : (h u d c : ℕ) → messageOk (Longer h u d c) ≡ true → (h < 16) × (u < 16) × (d < 256) × (c < 256)
+extended-below h u d c t =
+    let p = and-eq-true-iff (leb h 15 && leb u 15) (leb d 255 && leb c 255) .0 t in
+    let q = and-eq-true-iff (leb d 255) (leb c 255) .0 (p .1) in
+    let numbers = both-below h u (p .0) in
+    let hd : d ≤ 255 = leb-true d 255 (q .0) in
+    let hc : c ≤ 255 = leb-true c 255 (q .1) in
+    (numbers .0, numbers .1, omega arith, omega arith)
 
 same-function : (f k : Function) → functionCode f ≡ functionCode k → f ≡ k
 same-function f k e =

@@ -1,3 +1,4 @@
 pub mod Tables
 pub mod CodeLaws
 pub mod WordLaws
+pub mod BytesTold

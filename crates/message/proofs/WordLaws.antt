@@ -12,7 +12,7 @@ use borrow.Author.Tests.{lt-ltb, eq-eqb}
 use lib.Dec.{eqb, ltb}
 use Rattle.ground.specs.Choice.{pick}
 use Rattle.message.specs.Codes.{codeOf, functionCode, meanings, meaningOf}
-use Rattle.message.specs.Messages.{messageOk, BytesOk}
+use Rattle.message.specs.Messages.{messageOk}
 use Rattle.message.specs.Words.{nine, wordOf, wordIn, bitCount, standardOf, standardAnswer}
 use Rattle.message.specs.Words.{extendedOf, extendedAnswer, readWord, WordsReadBack, WordsOneToOne}
 use Rattle.message.specs.declared.Function.{Function}
@@ -22,7 +22,7 @@ use Rattle.message.specs.declared.word.Reading.{Reading}
 use Rattle.message.specs.declared.word.Reading.the-variants.{Message as Says, Longer as More}
 use Rattle.ground.specs.Refusals.{judged}
 use Rattle.ground.proofs.Choices.{below-sixteen, both-below}
-use Rattle.message.proofs.CodeLaws.{code-below, number-of-code, meaning-of-function, function-code-below}
+use Rattle.message.proofs.CodeLaws.{code-below, number-of-code, meaning-of-function, function-code-below, extended-below}
 
 -- the parts of nine bits
 module _ (h c f : ℕ) (hh : h < 16) (hc : c < 16) (hf : f < 2) where
@@ -38,14 +38,14 @@ module _ (h c f : ℕ) (hh : h < 16) (hc : c < 16) (hf : f < 2) where
   nine-below : nine h c f < 512
   nine-below = omega arith
 
-pub word-below : (m : Message) → BytesOk m → wordOf m < 2 ^ bitCount m
-word-below (Address h u) b = nine-below (codeOf h) (codeOf u) 0 (code-below h) (code-below u) (omega arith)
-word-below (Command h f) b = nine-below (codeOf h) (functionCode f) 1 (code-below h) (function-code-below f) (omega arith)
-word-below (Extended h u d c) b = omega (arith, code-below h, code-below u)
+pub word-below : (m : Message) → messageOk m ≡ true → wordOf m < 2 ^ bitCount m
+word-below (Address h u) t = nine-below (codeOf h) (codeOf u) 0 (code-below h) (code-below u) (omega arith)
+word-below (Command h f) t = nine-below (codeOf h) (functionCode f) 1 (code-below h) (function-code-below f) (omega arith)
+word-below (Extended h u d c) t = omega (arith, extended-below h u d c t, code-below h, code-below u)
 
 -- the first nine bits of an extended message say so
-pub head-of-extended : (h u d c : ℕ) → d < 256 → c < 256 → wordOf (Extended h u d c) / 2 ^ 20 ≡ nine (codeOf h) 7 1
-head-of-extended h u d c hd hc = omega (arith, code-below h, code-below u)
+pub head-of-extended : (h u d c : ℕ) → messageOk (Extended h u d c) ≡ true → wordOf (Extended h u d c) / 2 ^ 20 ≡ nine (codeOf h) 7 1
+head-of-extended h u d c t = omega (arith, extended-below h u d c t, code-below h, code-below u)
 
 pub standard-of-address : (h u : ℕ) → messageOk (Address h u) ≡ true → standardOf (wordOf (Address h u)) ≡ Says (Address h u)
 unfolding standardOf
@@ -70,10 +70,9 @@ standard-of-function h f t =
       meaning-of-function f,
     )
 
-pub extended-of-word : (h u d c : ℕ) → messageOk (Extended h u d c) ≡ true → BytesOk (Extended h u d c) → extendedOf (wordOf
-    (Extended h u d c)) ≡ Extended h u d c
-extended-of-word h u d c t b =
-    let p = both-below h u t in
+pub extended-of-word : (h u d c : ℕ) → messageOk (Extended h u d c) ≡ true → extendedOf (wordOf (Extended h u d c)) ≡ Extended h u d c
+extended-of-word h u d c t =
+    let p = extended-below h u d c t in
     let w = wordOf (Extended h u d c) in
     let eh : w / 2 ^ 25 % 16 ≡ codeOf h = omega (arith, code-below h, code-below u) in
     let eu : w / 2 ^ 16 % 16 ≡ codeOf u = omega (arith, code-below h, code-below u) in
@@ -87,23 +86,24 @@ standard-read : (w : ℕ) → w < 512 → standardAnswer w ≡ standardOf w
 unfolding standardAnswer judged
 standard-read w h = rw (lt-ltb w 512 h)
 
-extended-read : (h u d c : ℕ) → d < 256 → c < 256
+extended-read : (h u d c : ℕ) → messageOk (Extended h u d c) ≡ true
     → extendedAnswer (wordOf (Extended h u d c)) ≡ Says (extendedOf (wordOf (Extended h u d c)))
 unfolding extendedAnswer judged
-extended-read h u d c hd hc =
+extended-read h u d c t =
+    let p = extended-below h u d c t in
     let w = wordOf (Extended h u d c) in
     let within : w < 2 ^ 29 = omega (arith, code-below h, code-below u) in
     let head : w / 2 ^ 20 % 32 ≡ 15 = omega (arith, code-below h, code-below u) in
     rw (lt-ltb w (2 ^ 29) within, eq-eqb (w / 2 ^ 20 % 32) 15 head)
 
 pub words-read-back : WordsReadBack
-words-read-back (Address h u) t b = standard-read (wordOf (Address h u)) (word-below (Address h u) b) ∙ standard-of-address h u t
-words-read-back (Command h f) t b = standard-read (wordOf (Command h f)) (word-below (Command h f) b) ∙ standard-of-function h f t
-words-read-back (Extended h u d c) t b = extended-read h u d c (b .0) (b .1) ∙ ap Says (extended-of-word h u d c t b)
+words-read-back (Address h u) t = standard-read (wordOf (Address h u)) (word-below (Address h u) t) ∙ standard-of-address h u t
+words-read-back (Command h f) t = standard-read (wordOf (Command h f)) (word-below (Command h f) t) ∙ standard-of-function h f t
+words-read-back (Extended h u d c) t = extended-read h u d c t ∙ ap Says (extended-of-word h u d c t)
 
 pub words-one-to-one : WordsOneToOne
-words-one-to-one m n tm bm tn bn e =
-    let p : Says m ≡ Says n = sym (words-read-back m tm bm) ∙ ap readWord e ∙ words-read-back n tn bn in
+words-one-to-one m n tm tn e =
+    let p : Says m ≡ Says n = sym (words-read-back m tm) ∙ ap readWord e ∙ words-read-back n tn in
     cc
 
 -- nine bits of a house, code 7 and function bit 1 say that an extended message has begun

@@ -6,7 +6,7 @@ use mathlib.Core.List.{List, [], _∷_}
 use lib.Dec.{eqb, ltb}
 use Rattle.ground.specs.Refusals.{Report, reports, refuses, refusalNumber, Cause, unless, judged}
 use Rattle.ground.specs.declared.Refusal.the-variants as refusal
-use Rattle.message.specs.Messages.{messageOk, BytesOk}
+use Rattle.message.specs.Messages.{messageOk}
 use Rattle.ground.specs.Choice.{pick}
 use Rattle.message.specs.Codes.{codeOf, numberOf, functionCode, meaningOf}
 use Rattle.message.specs.declared.Message.{Message}
@@ -94,9 +94,8 @@ abbrev pub readWord : Word → Reading
 readWord w = pick (eqb (w .count) 9) (standardAnswer (w .bits)) (extendedAnswer (w .bits))
 
 abbrev pub WordsReadBack : Type 0
-WordsReadBack = (m : Message) → messageOk m ≡ true → BytesOk m → readWord (wordIn m) ≡ Says m
+WordsReadBack = (m : Message) → messageOk m ≡ true → readWord (wordIn m) ≡ Says m
 
 -- two valid messages with the same bits are one message
 abbrev pub WordsOneToOne : Type 0
-WordsOneToOne =
-    (m n : Message) → messageOk m ≡ true → BytesOk m → messageOk n ≡ true → BytesOk n → wordIn m ≡ wordIn n → m ≡ n
+WordsOneToOne = (m n : Message) → messageOk m ≡ true → messageOk n ≡ true → wordIn m ≡ wordIn n → m ≡ n

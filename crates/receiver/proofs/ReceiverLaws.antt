@@ -3,8 +3,10 @@
 --     Taken, taken                       the ways in which a half-cycle is taken, each with what holds there
 --     step-number                        the event's number is 01's number for the call
 --     at-most, valid-parts               what holds of a receiver that is not refused
---     nineOk, nine-ok                    what nine bits say, judged by their numbers; one computed test over the table of meanings
+--     tenToTwelve, nineOk, nine-ok       what nine bits say, judged by their numbers; one computed test over the table of meanings
 --     read-nine, read-all, last-code     a complete frame's bits are not refused
+--     standard-ok, extended-ok           what they say is a valid message, if any
+--     begun-code                         only code 7 with function bit 1 begins a longer frame
 --     step-lowest, fresh-is-valid, stays-valid, gives-valid      StepLowest, FreshIsValid, StaysValid and GivesValid
 use mathlib.Core.Path.{_≡_, refl, sym, ap, _∙_}
 use mathlib.Core.Bool.{Bool, true, false, false≢true, _&&_, not, and-eq-true-iff, and-false}
@@ -90,11 +92,11 @@ module _ (r : Receiver) (h : ℕ) where
 number-ok : (c : ℕ) → leb (numberOf (c % 16)) 15 ≡ true
 number-ok c = let low : c % 16 < 16 = omega arith in le-leb (numberOf (c % 16)) 15 (omega (arith, number-below (c % 16) low))
 
-abbrev tenToTwelve : ℕ → Bool
+abbrev pub tenToTwelve : ℕ → Bool
 tenToTwelve c = leb 10 c && leb c 12
 
 -- by the function bit and the code: a message is valid, only code 7 begins a longer frame, and codes 10, 11 and 12 alone are unsupported
-abbrev nineOk : Bool → ℕ → Reading → Bool
+abbrev pub nineOk : Bool → ℕ → Reading → Bool
 nineOk b c (Says m) = messageOk m && not (b && tenToTwelve c)
 nineOk b c Longer = b && eqb c 7
 nineOk b c Unsupported = b && tenToTwelve c
@@ -104,7 +106,7 @@ function-ok : (house c : ℕ) → leb house 15 ≡ true → c < 16 → nineOk tr
 unfolding meaningOf meanings
 function-ok house c ok low = every-at (λ k x. nineOk true k (functionReading house x)) meanings (meaningOf 16) c (rw ok) low
 
-nine-ok : (w : ℕ) → nineOk (eqb (w % 2) 1) (w / 2 % 16) (standardOf w) ≡ true
+pub nine-ok : (w : ℕ) → nineOk (eqb (w % 2) 1) (w / 2 % 16) (standardOf w) ≡ true
 unfolding standardOf
 nine-ok w = go (ℕ-discrete (w % 2) 0)
   where
@@ -270,7 +272,7 @@ givesOk BrokenUnsupported = true
 givesOk (Refused why) = true
 
 -- so is a whole one that is read
-abbrev readsOk : Reading → Bool
+abbrev pub readsOk : Reading → Bool
 readsOk (Says m) = messageOk m
 readsOk Longer = true
 readsOk Unsupported = true
@@ -282,11 +284,12 @@ reads-ok b c Longer t = refl
 reads-ok b c Unsupported t = refl
 reads-ok b c (NotRead why) t = refl
 
-standard-ok : (w : ℕ) → readsOk (standardOf w) ≡ true
+pub standard-ok : (w : ℕ) → readsOk (standardOf w) ≡ true
 standard-ok w = reads-ok (eqb (w % 2) 1) (w / 2 % 16) (standardOf w) (nine-ok w)
 
-extended-ok : (w : ℕ) → messageOk (extendedOf w) ≡ true
-extended-ok w = simp (number-ok (w / 2 ^ 25), number-ok (w / 2 ^ 16))
+pub extended-ok : (w : ℕ) → messageOk (extendedOf w) ≡ true
+extended-ok w =
+    simp (number-ok (w / 2 ^ 25), number-ok (w / 2 ^ 16), le-leb (w / 256 % 256) 255 (omega arith), le-leb (w % 256) 255 (omega arith))
 
 complete-gives : (given : Given) (m : Message) (past : ℕ) → messageOk m ≡ true → givesOk (completeOf given m past .event) ≡ true
 unfolding completeOf
@@ -344,7 +347,7 @@ hunt-stays past h bit = go (eqb past 7 && eqb h 0)
     go false = valid-of (shifted past h) 0 0 No (omega arith) (low-pairs 0 0 (lit≤ tt)) refl
 
 -- only code 7 with function bit 1 begins an extended message
-begun-code : (w : ℕ) → standardOf w ≡ Longer → w % 32 ≡ 15
+pub begun-code : (w : ℕ) → standardOf w ≡ Longer → w % 32 ≡ 15
 begun-code w e =
     let t : (eqb (w % 2) 1 && eqb (w / 2 % 16) 7) ≡ true = ap (nineOk (eqb (w % 2) 1) (w / 2 % 16)) (sym e) ∙ nine-ok w in
     let p = and-eq-true-iff (eqb (w % 2) 1) (eqb (w / 2 % 16) 7) .0 t in

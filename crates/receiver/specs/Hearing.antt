@@ -1,6 +1,8 @@
 -- One call after another: what a receiver says over a list of half-cycles, and where it then stands.
 use Prim.Native.Nat.{ℕ}
 use mathlib.Core.List.{List, [], _∷_}
+use lib.Dec.{leb}
+use Rattle.ground.specs.Choice.{pick}
 use Rattle.receiver.specs.Receivers.{stepOf}
 use Rattle.receiver.specs.declared.Receiver.{Receiver}
 use Rattle.receiver.specs.declared.Event.{Event}
@@ -17,6 +19,11 @@ eventsOf r (h ∷ hs) = stepOf r h .event ∷ eventsOf (stepOf r h .next) hs
 unfoldable pub receiverAfter : Receiver → List ℕ → Receiver
 receiverAfter r [] = r
 receiverAfter r (h ∷ hs) = receiverAfter (stepOf r h .next) hs
+
+-- a refused half-cycle "changes nothing": those that count are 0 or 1
+abbrev pub taken : List ℕ → List ℕ
+taken [] = []
+taken (h ∷ hs) = pick (leb h 1) (h ∷ taken hs) (taken hs)
 
 -- ---- up to the first MESSAGE
 

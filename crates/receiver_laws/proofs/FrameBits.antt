@@ -13,7 +13,7 @@ use native.Mathlib.Omega.{arith}
 use borrow.Author.Tests.{le-leb, lt-leb, eq-eqb, ne-eqb}
 use lib.Pow.{shr-shr, shr-le}
 use Rattle.message.specs.Codes.{codeOf}
-use Rattle.message.specs.Messages.{messageOk, BytesOk}
+use Rattle.message.specs.Messages.{messageOk}
 use Rattle.message.specs.Words.{nine, wordOf, bitCount, standardOf}
 use Rattle.message.specs.declared.Message.{Message}
 use Rattle.message.specs.declared.Message.the-variants.{Address, Function as Command, Extended}
@@ -74,13 +74,13 @@ standard m n f s e = record {
   last = λ g p q a b h. rw (eq-eqb (a + 1) 22 (omega arith), e);
 }
 
-module _ (h u d c : ℕ) (ok : messageOk (Extended h u d c) ≡ true) (bytes : BytesOk (Extended h u d c)) where
+module _ (h u d c : ℕ) (ok : messageOk (Extended h u d c) ≡ true) where
   w : ℕ
   w = wordOf (Extended h u d c)
 
   nine-bits : w / 2 ^ 20 ≡ nine (codeOf h) 7 1
   unfolding w
-  nine-bits = head-of-extended h u d c (bytes .0) (bytes .1)
+  nine-bits = head-of-extended h u d c ok
 
   head : (i j : ℕ) → i + j ≡ 20 → w / 2 ^ i / 2 ^ j ≡ nine (codeOf h) 7 1
   head i j e = shr-shr w i j ∙ ap (λ (x : ℕ). w / 2 ^ x) e ∙ nine-bits
@@ -111,7 +111,7 @@ module _ (h u d c : ℕ) (ok : messageOk (Extended h u d c) ≡ true) (bytes : B
   last-pair : (g : Given) (p q a b : ℕ) → a ≡ 61 → pairOf (standing g p (a + 1) b) w q ≡ completeOf g (Extended h u d c) q
   unfolding pairOf w
   last-pair g p q a b e =
-      rw (ne-eqb (a + 1) 22 (λ x. omega arith), eq-eqb (a + 1) 62 (omega arith), extended-of-word h u d c ok bytes)
+      rw (ne-eqb (a + 1) 22 (λ x. omega arith), eq-eqb (a + 1) 62 (omega arith), extended-of-word h u d c ok)
 
   extended : Framed (Extended h u d c)
   unfolding w
@@ -119,14 +119,14 @@ module _ (h u d c : ℕ) (ok : messageOk (Extended h u d c) ≡ true) (bytes : B
     rest = 28;
     count = refl;
     lead = refl;
-    small = word-below (Extended h u d c) bytes;
-    none = div-eq-of-lt (word-below (Extended h u d c) bytes);
+    small = word-below (Extended h u d c) ok;
+    none = div-eq-of-lt (word-below (Extended h u d c) ok);
     pairs = λ i a low high. pairs-all i a (omega arith) (omega arith);
     more = λ g p q i a b e. next-pair g p q i a b (omega arith);
     last = λ g p q a b e. last-pair g p q a b (omega arith);
   }
 
-pub framed : (m : Message) → messageOk m ≡ true → BytesOk m → Framed m
-framed (Address h u) ok b = standard (Address h u) refl refl (word-below (Address h u) b) (standard-of-address h u ok)
-framed (Command h f) ok b = standard (Command h f) refl refl (word-below (Command h f) b) (standard-of-function h f ok)
-framed (Extended h u d c) ok b = extended h u d c ok b
+pub framed : (m : Message) → messageOk m ≡ true → Framed m
+framed (Address h u) ok = standard (Address h u) refl refl (word-below (Address h u) ok) (standard-of-address h u ok)
+framed (Command h f) ok = standard (Command h f) refl refl (word-below (Command h f) ok) (standard-of-function h f ok)
+framed (Extended h u d c) ok = extended h u d c ok

@@ -17,7 +17,7 @@ use native.Mathlib.Nat.{le-of-suc-le-suc}
 use native.Mathlib.Decide.{ℕ-discrete}
 use native.Mathlib.Omega.{arith}
 use lib.ListN.{length, replicate}
-use Rattle.message.specs.Messages.{messageOk, BytesOk}
+use Rattle.message.specs.Messages.{messageOk}
 use Rattle.message.specs.Words.{wordOf, bitCount}
 use Rattle.message.specs.declared.Message.{Message}
 use Rattle.burst.specs.Frames.{bitsOf, pairsOf, frameOf, burstOf}
@@ -155,9 +155,9 @@ module _ (m : Message) (F : Framed m) (g : Given) (hg : givenOk g ≡ true) (S :
 
 -- ---- what is left after the inversion, and both copies
 
-module _ (m : Message) (ok : messageOk m ≡ true) (bytes : BytesOk m) (y : ℕ) where
+module _ (m : Message) (ok : messageOk m ≡ true) (y : ℕ) where
   F : Framed m
-  F = framed m ok bytes
+  F = framed m ok
 
   tells-last : (q : ℕ) (bs : List ℕ) → Calm q → Bits bs → tells (hunting q) (pairsOf bs ++ clear y) ≡ []
   tells-last q bs c hb =
@@ -213,6 +213,6 @@ module _ (m : Message) (ok : messageOk m ≡ true) (bytes : BytesOk m) (y : ℕ)
       (after-clear z (suc c) q i (omega arith) (rests-next h) (omega arith) l)
 
 pub one-inversion : OneInversion
-one-inversion m ok bytes z i y n l =
+one-inversion m ok z i y n l =
     subst⁻¹ (AtMostOnce m) (ap (tells freshReceiver) (append-assoc (clear z) (inverted i (burstOf m)) (clear y)))
-    (after-clear m ok bytes y z 0 63 i (omega arith) rests-fresh (omega arith) l)
+    (after-clear m ok y z 0 63 i (omega arith) rests-fresh (omega arith) l)

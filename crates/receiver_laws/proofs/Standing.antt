@@ -20,7 +20,7 @@ use lib.Dec.{eqb}
 use lib.ListN.{length, getD, take, replicate}
 use lib.Seq.{append-snoc, take-length}
 use Rattle.ground.specs.Choice.{pick}
-use Rattle.message.specs.Messages.{messageOk, BytesOk}
+use Rattle.message.specs.Messages.{messageOk}
 use Rattle.message.specs.declared.Message.{Message}
 use Rattle.message.specs.declared.Message.the-variants.{Address, Function as Command, Extended}
 use Rattle.burst.specs.Frames.{frameLength, burstOf, burstLength}
@@ -105,19 +105,19 @@ pub stands-first : (m : Message) (r : Receiver) → standsAt m r 0 ≡ r
 unfolding standsAt receiverAfter
 stands-first m r = refl
 
-module _ (m : Message) (ok : messageOk m ≡ true) (bytes : BytesOk m) (r : Receiver) (h : Ready r) where
+module _ (m : Message) (ok : messageOk m ≡ true) (r : Receiver) (h : Ready r) where
   pub stands-step : (k : ℕ) → k < length (burstOf m) → stepOf (standsAt m r k) (getD (burstOf m) k 0) ≡ says (eventAt m k) (standsAt m r (suc k))
   unfolding standsAt
   stands-step k l =
       step-at (burstOf m) r k l
       ∙ ap (λ (e : Event). says e (receiverAfter r (take (suc k) (burstOf m))))
-      (ap (λ (es : List Event). getD es k Nothing) (hears-burst m ok bytes r h .events) ∙ said m k)
+      (ap (λ (es : List Event). getD es k Nothing) (hears-burst m ok r h .events) ∙ said m k)
 
   pub stands-last : Rests 0 (standsAt m r (length (burstOf m)))
   unfolding standsAt
   stands-last =
       let clean = clean-burst m (r .past) in
-      rw (take-length (burstOf m), hears-burst m ok bytes r h .stands) (rests-hunting (lastSix (r .past) (burstOf m)) (clean .six) (omega arith))
+      rw (take-length (burstOf m), hears-burst m ok r h .stands) (rests-hunting (lastSix (r .past) (burstOf m)) (clean .six) (omega arith))
 
 pub repeat-ends : (m : Message) (k : ℕ) → eventAt m k ≡ Repeat → suc k ≡ burstLength m
 unfolding eventAt

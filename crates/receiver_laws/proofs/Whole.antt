@@ -10,7 +10,7 @@ use mathlib.Core.Bool.{true}
 use mathlib.Core.List.{_++_}
 use native.Mathlib.Omega.{arith}
 use lib.ListN.{replicate}
-use Rattle.message.specs.Messages.{messageOk, BytesOk}
+use Rattle.message.specs.Messages.{messageOk}
 use Rattle.message.specs.declared.Message.{Message}
 use Rattle.burst.specs.Frames.{frameOf, burstOf}
 use Rattle.receiver.specs.Receivers.{hunting, shifted, freshReceiver}
@@ -24,11 +24,11 @@ use Rattle.receiver_laws.proofs.FrameHeard.{hears-frame, hears-repeat}
 use Rattle.receiver_laws.proofs.Hush.{Hush, hush-run, hush-append, hush-clear, hush-frame}
 use Rattle.receiver_laws.proofs.Rests.{Rests, rests-fresh, ready-rests, rests-ready, rests-step, rests-next}
 
-module _ (m : Message) (ok : messageOk m ≡ true) (bytes : BytesOk m) where
+module _ (m : Message) (ok : messageOk m ≡ true) where
   pub hears-burst : (r : Receiver) → Ready r → Run r (burstOf m) (burstEvents m) (hunting (lastSix (r .past) (burstOf m)))
   unfolding burstOf burstEvents
   hears-burst r h =
-      let F = framed m ok bytes in
+      let F = framed m ok in
       rw (six-append (r .past) (frameOf m) (frameOf m))
       (run-append (hears-frame m F ok r h) (hears-repeat m F ok (lastSix (r .past) (frameOf m)) (clean-frame m (r .past) .six)))
 
@@ -61,8 +61,8 @@ no-start m z l =
     (hush-append (frameOf m) (frameOf m) p (hush-frame m p (too-few z l)) (hush-frame m q (omega arith)))
 
 pub every-burst-is-heard : EveryBurstIsHeard
-every-burst-is-heard m ok bytes = record {
-  fresh = λ z l. hears m ok bytes z 0 freshReceiver rests-fresh (omega arith);
-  ready = λ r z h. hears m ok bytes z 3 r (ready-rests r h) (omega arith);
+every-burst-is-heard m ok = record {
+  fresh = λ z l. hears m ok z 0 freshReceiver rests-fresh (omega arith);
+  ready = λ r z h. hears m ok z 3 r (ready-rests r h) (omega arith);
   fewer = λ z l. hush-run (clear z ++ burstOf m) 63 (omega arith) (no-start m z l) .events;
 }

@@ -6,7 +6,7 @@ use mathlib.Core.Path.{_≡_}
 use mathlib.Core.Bool.{true}
 use mathlib.Core.List.{List, [], _∷_, _++_}
 use lib.ListN.{length, getD, set}
-use Rattle.message.specs.Messages.{messageOk, BytesOk}
+use Rattle.message.specs.Messages.{messageOk}
 use Rattle.message.specs.declared.Message.{Message}
 use Rattle.burst.specs.Frames.{burstOf}
 use Rattle.receiver.specs.Receivers.{freshReceiver}
@@ -36,5 +36,5 @@ AtMostOnce m ms = (ms ≡ []) ⊎ (ms ≡ m ∷ [])
 -- z clear half-cycles, the burst of m with its half-cycle at i inverted, y clear ones
 abbrev pub OneInversion : Type 0
 OneInversion =
-    (m : Message) → messageOk m ≡ true → BytesOk m → (z i y : ℕ) → 3 ≤ z → i < length (burstOf m)
+    (m : Message) → messageOk m ≡ true → (z i y : ℕ) → 3 ≤ z → i < length (burstOf m)
     → AtMostOnce m (told (eventsOf freshReceiver (clear z ++ inverted i (burstOf m) ++ clear y)))

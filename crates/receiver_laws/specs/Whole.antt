@@ -6,7 +6,7 @@ use mathlib.Core.Path.{_≡_}
 use mathlib.Core.Bool.{true}
 use mathlib.Core.List.{List, [], _∷_, _++_}
 use lib.ListN.{length, replicate}
-use Rattle.message.specs.Messages.{messageOk, BytesOk}
+use Rattle.message.specs.Messages.{messageOk}
 use Rattle.message.specs.declared.Message.{Message}
 use Rattle.burst.specs.Frames.{frameLength, burstOf}
 use Rattle.receiver.specs.Receivers.{freshReceiver, receiverOk, shifted, hunting}
@@ -54,4 +54,4 @@ pub record HeardWhole (m : Message) : Type 0 where
 
 -- the theorem: proofs/Whole.antt
 abbrev pub EveryBurstIsHeard : Type 0
-EveryBurstIsHeard = (m : Message) → messageOk m ≡ true → BytesOk m → HeardWhole m
+EveryBurstIsHeard = (m : Message) → messageOk m ≡ true → HeardWhole m

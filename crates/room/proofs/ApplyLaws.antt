@@ -21,6 +21,7 @@ use Rattle.ground.proofs.Causes.{judged-map, lowest-given}
 use Rattle.message.specs.Messages.{messageOk}
 use Rattle.message.specs.declared.Message.{Message}
 use Rattle.message.specs.declared.Message.the-variants.{Address, Function as Command, Extended}
+use Rattle.message.proofs.CodeLaws.{extended-below}
 use Rattle.plan.specs.Plans.{houseOf, planOf, planAnswer}
 use Rattle.plan.specs.declared.Act.{Act}
 use Rattle.plan.specs.declared.Plan.{Plan}
@@ -39,7 +40,7 @@ use Rattle.room.proofs.HouseLaws.{whole, run-stays-valid}
 pub house-below : (m : Message) → messageOk m ≡ true → houseOf m < HOUSES
 house-below (Address h u) e = both-below h u e .0
 house-below (Command h f) e = below-sixteen h e
-house-below (Extended h u d c) e = both-below h u e .0
+house-below (Extended h u d c) e = extended-below h u d c e .0
 
 pub asked-house : (m : Message) {p : Plan} (a : Act) → p ≡ planAnswer m → p ≡ Run a → houseOf m < HOUSES
 unfolding planAnswer judged

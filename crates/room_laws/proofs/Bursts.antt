@@ -1,6 +1,6 @@
 -- Bursts after three clear half-cycles or more are each heard, since the receiver hunts again after each; so the line carries their messages.
 --
---     Fine, AllFine            messages that have a burst
+--     AllValid                 messages that have a burst
 --     line-carries             the messages of a line of bursts
 --     codes-carry              the messages of a list of codes
 --     bursts-as-codes          the theorem of specs/Demand2.antt
@@ -16,7 +16,7 @@ use borrow.Author.Tests.{le-leb}
 use Rattle.ground.specs.Refusals.{judged}
 use Rattle.ground.specs.declared.Refusal.{Refusal}
 use Rattle.ground.proofs.Causes.{judged-map}
-use Rattle.message.specs.Messages.{messageOk, BytesOk}
+use Rattle.message.specs.Messages.{messageOk}
 use Rattle.message.specs.declared.Message.{Message}
 use Rattle.burst.specs.Frames.{frameLength, burstOf}
 use Rattle.receiver.specs.Receivers.{freshReceiver, hunting, shifted}
@@ -47,27 +47,24 @@ use Rattle.room_laws.proofs.Carried.{demand-2}
 
 -- ---- messages that have a burst
 
-abbrev pub Fine : Message → Type 0
-Fine m = (messageOk m ≡ true) × BytesOk m
+abbrev pub AllValid : List Message → Type 0
+AllValid [] = Unit {0}
+AllValid (m ∷ ms) = (messageOk m ≡ true) × AllValid ms
 
-abbrev pub AllFine : List Message → Type 0
-AllFine [] = Unit {0}
-AllFine (m ∷ ms) = Fine m × AllFine ms
+valid-append : (ms ns : List Message) → AllValid ms → AllValid ns → AllValid (ms ++ ns)
+valid-append [] ns p q = q
+valid-append (m ∷ ms) ns p q = (p .0, valid-append ms ns (p .1) q)
 
-fine-append : (ms ns : List Message) → AllFine ms → AllFine ns → AllFine (ms ++ ns)
-fine-append [] ns p q = q
-fine-append (m ∷ ms) ns p q = (p .0, fine-append ms ns (p .1) q)
+command-valid : (k : RadioCommand) → commandOk k ≡ true → AllValid (messagesOf k)
+command-valid (On h u) ok = (ok, (and-eq-true-iff (leb h 15) (leb u 15) .0 ok .0, tt))
+command-valid (Off h u) ok = (ok, (and-eq-true-iff (leb h 15) (leb u 15) .0 ok .0, tt))
+command-valid (Bright h) ok = (ok, tt)
+command-valid (Dim h) ok = (ok, tt)
 
-command-fine : (k : RadioCommand) → commandOk k ≡ true → AllFine (messagesOf k)
-command-fine (On h u) ok = ((ok, tt), ((and-eq-true-iff (leb h 15) (leb u 15) .0 ok .0, tt), tt))
-command-fine (Off h u) ok = ((ok, tt), ((and-eq-true-iff (leb h 15) (leb u 15) .0 ok .0, tt), tt))
-command-fine (Bright h) ok = ((ok, tt), tt)
-command-fine (Dim h) ok = ((ok, tt), tt)
-
-commands-fine : (ks : List RadioCommand) → AllOk ks → AllFine (flatMap messagesOf ks)
+commands-valid : (ks : List RadioCommand) → AllOk ks → AllValid (flatMap messagesOf ks)
 unfolding flatMap
-commands-fine [] ok = tt
-commands-fine (k ∷ ks) ok = fine-append (messagesOf k) (flatMap messagesOf ks) (command-fine k (ok .0)) (commands-fine ks (ok .1))
+commands-valid [] ok = tt
+commands-valid (k ∷ ks) ok = valid-append (messagesOf k) (flatMap messagesOf ks) (command-valid k (ok .0)) (commands-valid ks (ok .1))
 
 -- ---- one burst
 
@@ -92,16 +89,16 @@ pub record HeardOn (r : Receiver) (z : ℕ) (m : Message) : Type 0 where
   run : Run r (clear z ++ burstOf m) (replicate z Nothing ++ burstEvents m) stands
   rests : Rests 0 stands
 
-heard-on : (m : Message) → Fine m → (r : Receiver) (z : ℕ) → Rests 0 r → 3 ≤ z → HeardOn r z m
-heard-on m fine r zero h l = absurd (omega arith)
-heard-on m fine r (suc zero) h l = absurd (omega arith)
-heard-on m fine r (suc (suc zero)) h l = absurd (omega arith)
-heard-on m fine r (suc (suc (suc y))) h l =
+heard-on : (m : Message) → messageOk m ≡ true → (r : Receiver) (z : ℕ) → Rests 0 r → 3 ≤ z → HeardOn r z m
+heard-on m valid r zero h l = absurd (omega arith)
+heard-on m valid r (suc zero) h l = absurd (omega arith)
+heard-on m valid r (suc (suc zero)) h l = absurd (omega arith)
+heard-on m valid r (suc (suc (suc y))) h l =
     let p = shifted (shifted (shifted (r .past) 0) 0) 0 in
     let one = rests-next h in
     let two = rests-next one in
     let three = rests-next two in
-    let hears = every-burst-is-heard m (fine .0) (fine .1) .ready (hunting p) y (rests-ready 3 (hunting p) (omega arith) three) in
+    let hears = every-burst-is-heard m valid .ready (hunting p) y (rests-ready 3 (hunting p) (omega arith) three) in
     let clean = clean-burst m (lastSix p (clear y)) in
     record {
       stands = hunting (lastSix p (clear y ++ burstOf m));
@@ -111,14 +108,14 @@ heard-on m fine r (suc (suc (suc y))) h l =
 
 -- ---- a line of bursts, and a list of codes
 
-pub line-carries : (line : List Sending) (r : Receiver) → Spaced line → AllFine (map (λ s. s .message) line) → Rests 0 r
+pub line-carries : (line : List Sending) (r : Receiver) → Spaced line → AllValid (map (λ s. s .message) line) → Rests 0 r
     → told (eventsOf r (onLine line)) ≡ map (λ s. s .message) line
 unfolding onLine eventsOf told
-line-carries [] r spaced fine h = refl
-line-carries (s ∷ more) r spaced fine h =
-    let heard = heard-on (s .message) (fine .0) r (s .gap) h (spaced .0) in
+line-carries [] r spaced valid h = refl
+line-carries (s ∷ more) r spaced valid h =
+    let heard = heard-on (s .message) (valid .0) r (s .gap) h (spaced .0) in
     tells-run (onLine more) (heard .run)
-    ∙ ap₂ _++_ (told-burst (s .gap) (s .message)) (line-carries more (heard .stands) (spaced .1) (fine .1) (heard .rests))
+    ∙ ap₂ _++_ (told-burst (s .gap) (s .message)) (line-carries more (heard .stands) (spaced .1) (valid .1) (heard .rests))
 
 -- what the reader answers means
 abbrev meantIf : RadioRead → List Message
@@ -153,9 +150,9 @@ fresh-called halves done refused =
 
 pub bursts-as-codes : BurstsAsCodes
 bursts-as-codes ks line ok spaced same =
-    let fine = subst AllFine (sym same) (commands-fine ks ok) in
+    let valid = subst AllValid (sym same) (commands-valid ks ok) in
     let heard = fresh-called (onLine line) (told (eventsHeard (receiverBytes freshReceiver) (onLine line))) (λ why. [])
-    ∙ ap told (fresh-hears (onLine line)) ∙ line-carries line freshReceiver spaced fine rests-fresh ∙ same in
+    ∙ ap told (fresh-hears (onLine line)) ∙ line-carries line freshReceiver spaced valid rests-fresh ∙ same in
     let read = codes-carry ks ok in
     record {
       by-mains = heard;

@@ -4,4 +4,5 @@ pub mod StateLaws
 pub mod TurnLaws
 pub mod SlotLaws
 pub mod Loops
+pub mod BenchCases
 pub mod Lowest

@@ -7,11 +7,11 @@
 --             moving-same, all-moved, all-marked
 use mathlib.Core.Path.{_≡_, refl, sym, ap, ap₂, subst, _∙_}
 use mathlib.Core.Bool.{Bool, true, false, _&&_}
-use mathlib.Core.List.{List, [], _∷_, _++_, map, map-append}
+use mathlib.Core.List.{List, [], _∷_, _++_, map, map-append, zipWith}
 use Prim.Native.Nat.{ℕ, zero, suc, _-_, _≤_, _<_, max}
 use native.Mathlib.Nat.{zero-max, max-zero, zero-add, suc-sub-suc, zero-sub, sub-zero, le-refl}
 use native.Mathlib.Omega.{arith}
-use lib.ListN.{length, take, drop, getD, set, replicate, length-set, length-replicate}
+use lib.ListN.{length, take, drop, getD, set, replicate, length-set, length-replicate, length-drop}
 use lib.Seq.{sets, sets-eq, slice, slice-cons, slice-empty, take-suc, take-suc-set, getD-set-other, set-getD, length-take-le}
 use Rattle.station.specs.declared.Station.{Station}
 use Rattle.station.specs.declared.Turn.{Turn}
@@ -107,7 +107,8 @@ module _ {n : ℕ} {slots : List Station} {line : ℕ} {sent : List ℕ} (r : Lo
 pub record Moving (n line : ℕ) (slots : List Station) (draws : List ℕ) (after : List Station) (done : List Bool) (i : ℕ) : Type 0 where
   pub within : i ≤ n
   pub moved : sets after i (moveAll line (slice i n slots) (slice i n draws)) ≡ moveAll line (take n slots) (take n draws) ++ drop n slots
-  pub marked : sets done i (doneAll line (slice i n slots) (slice i n draws)) ≡ doneAll line (take n slots) (take n draws) ++ replicate (length slots - n) false
+  pub marked : sets done i (doneAll line (slice i n slots) (slice i n draws))
+      ≡ doneAll line (take n slots) (take n draws) ++ replicate (length (drop n slots)) false
   pub rest : (k : ℕ) (d : Station) → i ≤ k → getD after k d ≡ getD slots k d
   pub unmarked : (k : ℕ) → i ≤ k → getD done k false ≡ false
   pub long : length after ≡ length slots
@@ -124,26 +125,27 @@ drop-replicate n zero a = ap (λ (m : ℕ). replicate m a) (sym (sub-zero n))
 drop-replicate zero (suc k) a = ap (λ (m : ℕ). replicate m a) (sym (zero-sub (suc k)))
 drop-replicate (suc n) (suc k) a = drop-replicate n k a ∙ ap (λ (m : ℕ). replicate m a) (sym (suc-sub-suc n k))
 
-module _ {n line : ℕ} {slots : List Station} {draws : List ℕ} (few : n ≤ length slots) where
+module _ {n line : ℕ} {slots : List Station} {draws : List ℕ} (few : n ≤ length slots) (enough : n ≤ length draws) where
   pub moving-none : Moving n line slots draws slots (replicate (length slots) false) 0
   moving-none =
       let first : length (take n slots) ≡ n = length-take-le n slots few in
+      let each : length (take n draws) ≡ length (take n slots) = length-take-le n draws enough ∙ sym first in
       let marks : List Bool = doneAll line (take n slots) (take n draws) in
-      let many : length marks ≡ n = length-done line (take n slots) (take n draws) ∙ first in
+      let many : length marks ≡ n = length-done line (take n slots) (take n draws) each ∙ first in
       let all : length (replicate (length slots) false) ≡ length slots = length-replicate (length slots) false in
       record {
         within = omega arith;
-        moved = front slots (moveAll line (take n slots) (take n draws)) n (length-moved line (take n slots) (take n draws) ∙ first) few;
+        moved = front slots (moveAll line (take n slots) (take n draws)) n (length-moved line (take n slots) (take n draws) each ∙ first) few;
         marked =
             front (replicate (length slots) false) marks n many (omega arith)
-            ∙ ap (λ (xs : List Bool). marks ++ xs) (drop-replicate (length slots) n false);
+            ∙ ap (λ (xs : List Bool). marks ++ xs) (drop-replicate (length slots) n false ∙ ap (λ (k : ℕ). replicate k false) (sym (length-drop n slots)));
         rest = λ k d h. refl;
         unmarked = λ k h. getD-same (length slots) k false;
         long = refl;
         marks = all;
       }
 
-  module _ (enough : n ≤ length draws) {after : List Station} {done : List Bool} {i : ℕ} (h : i < n) (e : Station)
+  module _ {after : List Station} {done : List Bool} {i : ℕ} (h : i < n) (e : Station)
       (r : Moving n line slots draws after done i) where
     -- what one half-cycle makes of the next station, which is still as it was
     abbrev turnNext : Turn
@@ -154,7 +156,7 @@ module _ {n line : ℕ} {slots : List Station} {draws : List ℕ} (few : n ≤ l
 
     pub moving-more : (s : Station) (mark : Bool) → turnNext .next ≡ s → isDone (turnNext .answer) ≡ mark
         → Moving n line slots draws (set after i s) (set done i mark) (suc i)
-    unfolding moveAll doneAll
+    unfolding moveAll doneAll zipWith
     moving-more s mark is says =
         let station = slice-cons i n slots e h few in
         let draw = slice-cons i n draws 0 h enough in
@@ -187,9 +189,9 @@ module _ {n line : ℕ} {slots : List Station} {draws : List ℕ} (few : n ≤ l
 
 module _ {n line : ℕ} {slots : List Station} {draws : List ℕ} {after : List Station} {done : List Bool} (r : Moving n line slots draws after done n) where
   pub all-moved : after ≡ moveAll line (take n slots) (take n draws) ++ drop n slots
-  unfolding moveAll
+  unfolding moveAll zipWith
   all-moved = rw (slice-empty n slots) at (r .moved)
 
-  pub all-marked : done ≡ doneAll line (take n slots) (take n draws) ++ replicate (length slots - n) false
-  unfolding doneAll
+  pub all-marked : done ≡ doneAll line (take n slots) (take n draws) ++ replicate (length (drop n slots)) false
+  unfolding doneAll zipWith
   all-marked = rw (slice-empty n slots) at (r .marked)

@@ -10,5 +10,5 @@ lowest-numbers = record {
   load = λ s m draw. lowest-given (loadCauses s m draw) refl;
   sends = λ s. lowest-given (sendCauses s) refl;
   advance = λ s heard draw. lowest-given (turnCauses s heard draw) refl;
-  half-cycle = λ n slots draws. lowest-given (benchCauses n slots draws) refl;
+  half-cycle = λ most n stations draws. lowest-given (benchCauses most n stations draws) refl;
 }

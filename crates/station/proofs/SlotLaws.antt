@@ -1,22 +1,25 @@
 -- Laws of a bench's list of stations.
 --
---     ok-at, draw-at, sent-at      what is so of all is so of one
+--     ok-in, draw-in, line-in      what is so of all is so of one
+--     ok-at, draw-at, sent-at      the same of the first n
 --     ready-at                     what a station's move asks
 --     line-at, line-below          no station sends more than the line has, and the line is 0 or 1
 --     three-numbers                a slot whose numbers are written one after the other
 --     length-moved, length-done    there are as many stations after a half-cycle, and as many marks
 --     or-max                       of two half-cycles the one or the other is the greater of them
+--     refused-in-slots             a refused call leaves all slots
 --     bench-promise                what a call's answer reports
-use mathlib.Core.Path.{_≡_, refl, sym, ap, subst, _∙_}
-use mathlib.Core.Bool.{true, and-eq-true-iff}
-use mathlib.Core.List.{List, [], _∷_, map}
-use Prim.Native.Nat.{ℕ, zero, suc, _≤_, _<_, max}
-use native.Mathlib.Nat.{not-suc-le-zero, le-of-suc-le-suc}
+use mathlib.Core.Path.{_≡_, refl, sym, ap, ap₂, subst, fun-ext, _∙_}
+use mathlib.Core.Bool.{Bool, true, false, and-eq-true-iff}
+use mathlib.Core.List.{List, [], _∷_, _++_, map, zipWith}
+use Prim.Native.Nat.{ℕ, zero, suc, _+_, _≤_, _<_, max}
+use native.Mathlib.Nat.{not-suc-le-zero, le-of-suc-le-suc, suc-inj, zero-add, suc-add}
 use native.Mathlib.Omega.{arith}
 use lib.Bits.{bitOr}
-use lib.ListN.{length, take, getD, set, length-take, length-map, List·getD-map}
+use lib.ListN.{length, take, drop, getD, set, replicate, length-append, length-take, length-map, take-append-drop, List·getD-map}
 use lib.Seq.{getD-take, length-take-le, getD-set-same, set-set, lt-length-set}
-use Rattle.ground.specs.Refusals.{Report, reports, refuses, judged}
+use Rattle.ground.specs.Refusals.{Report, reports, refuses, Cause, judged}
+use Rattle.ground.specs.declared.Refusal.{Refusal}
 use Rattle.ground.proofs.Causes.{judged-map}
 use Rattle.message.proofs.Tables.{getD-any}
 use Rattle.station.specs.declared.Station.{Station}
@@ -24,24 +27,26 @@ use Rattle.station.specs.declared.Held.the-variants.{Empty}
 use Rattle.station.specs.Stations.{stationOk, drawOk, sendsOf}
 use Rattle.station.proofs.SendLaws.{sends-below}
 use Rattle.station.proofs.TurnLaws.{Movable}
-use Rattle.station.specs.Benches.{lineOf, moveAll, doneAll, stationsOk, drawsOk, turnAll, benchOf, benchReport, benchCauses}
+use Rattle.station.specs.Benches.{lineOf, moveAll, doneAll, stationsOk, drawsOk, turnAll, benchRefused, benchOn, slotCauses, beside, benchOf}
+use Rattle.station.specs.Benches.{benchReport}
+use Rattle.station.specs.declared.bench.BenchAnswer.the-variants.{Refused}
 use Rattle.station.specs.declared.bench.BenchTurn.{BenchTurn}
 
 -- ---- one of many
 
-ok-in : (ss : List Station) (i : ℕ) (e : Station) → stationsOk ss ≡ true → i < length ss → stationOk (getD ss i e) ≡ true
+pub ok-in : (ss : List Station) (i : ℕ) (e : Station) → stationsOk ss ≡ true → i < length ss → stationOk (getD ss i e) ≡ true
 unfolding stationsOk
 ok-in [] i e t h = absurd (not-suc-le-zero h)
 ok-in (s ∷ ss) zero e t h = and-eq-true-iff (stationOk s) (stationsOk ss) .0 t .0
 ok-in (s ∷ ss) (suc i) e t h = ok-in ss i e (and-eq-true-iff (stationOk s) (stationsOk ss) .0 t .1) (le-of-suc-le-suc h)
 
-draw-in : (ds : List ℕ) (i : ℕ) → drawsOk ds ≡ true → i < length ds → drawOk (getD ds i 0) ≡ true
+pub draw-in : (ds : List ℕ) (i : ℕ) → drawsOk ds ≡ true → i < length ds → drawOk (getD ds i 0) ≡ true
 unfolding drawsOk
 draw-in [] i t h = absurd (not-suc-le-zero h)
 draw-in (d ∷ ds) zero t h = and-eq-true-iff (drawOk d) (drawsOk ds) .0 t .0
 draw-in (d ∷ ds) (suc i) t h = draw-in ds i (and-eq-true-iff (drawOk d) (drawsOk ds) .0 t .1) (le-of-suc-le-suc h)
 
-line-in : (ss : List Station) (i : ℕ) (e : Station) → i < length ss → sendsOf (getD ss i e) ≤ lineOf ss
+pub line-in : (ss : List Station) (i : ℕ) (e : Station) → i < length ss → sendsOf (getD ss i e) ≤ lineOf ss
 unfolding lineOf
 line-in [] i e h = absurd (not-suc-le-zero h)
 line-in (s ∷ ss) zero e h = omega arith
@@ -123,17 +128,18 @@ three-numbers ss i e w c p h =
 
 -- ---- as many
 
-pub length-moved : (line : ℕ) (ss : List Station) (ds : List ℕ) → length (moveAll line ss ds) ≡ length ss
-unfolding moveAll
-length-moved line [] ds = refl
-length-moved line (s ∷ ss) [] = refl
-length-moved line (s ∷ ss) (d ∷ ds) = ap suc (length-moved line ss ds)
+module _ (line : ℕ) where
+  pub length-moved : (ss : List Station) (ds : List ℕ) → length ds ≡ length ss → length (moveAll line ss ds) ≡ length ss
+  unfolding moveAll zipWith
+  length-moved [] ds e = refl
+  length-moved (s ∷ ss) [] e = absurd (omega arith)
+  length-moved (s ∷ ss) (d ∷ ds) e = ap suc (length-moved ss ds (suc-inj e))
 
-pub length-done : (line : ℕ) (ss : List Station) (ds : List ℕ) → length (doneAll line ss ds) ≡ length ss
-unfolding doneAll
-length-done line [] ds = refl
-length-done line (s ∷ ss) [] = ap suc (length-done line ss [])
-length-done line (s ∷ ss) (d ∷ ds) = ap suc (length-done line ss ds)
+  pub length-done : (ss : List Station) (ds : List ℕ) → length ds ≡ length ss → length (doneAll line ss ds) ≡ length ss
+  unfolding doneAll zipWith
+  length-done [] ds e = refl
+  length-done (s ∷ ss) [] e = absurd (omega arith)
+  length-done (s ∷ ss) (d ∷ ds) e = ap suc (length-done ss ds (suc-inj e))
 
 -- ---- two half-cycles
 
@@ -148,9 +154,28 @@ or-max (suc zero) (suc (suc b)) h k = absurd (omega arith)
 
 -- ---- what a call's answer reports
 
-pub bench-promise : {o : BenchTurn} (n : ℕ) (slots : List Station) (draws : List ℕ) → o ≡ benchOf n slots draws
-    → (o ≡ benchOf n slots draws) × (benchReport (o .answer) ≡ judged (benchCauses n slots draws) (reports (lineOf (take n slots) ∷ [])) refuses)
-unfolding benchOf turnAll
+-- a refused call leaves all slots
+falses : (k n : ℕ) → replicate k false ++ replicate n false ≡ replicate (k + n) false
+falses zero n = ap (λ (x : ℕ). replicate x false) (sym (zero-add n))
+falses (suc k) n = ap (λ (l : List Bool). false ∷ l) (falses k n) ∙ ap (λ (x : ℕ). replicate x false) (sym (suc-add k n))
+
+pub refused-in-slots : (n : ℕ) (slots : List Station) (why : Refusal) → beside (drop n slots) (benchRefused (take n slots) why) ≡ benchRefused slots why
+refused-in-slots n slots why =
+    let all = sym (length-append (take n slots) (drop n slots)) ∙ ap length (take-append-drop n slots) in
+    ap₂ {C = BenchTurn} (λ (d : List Bool) (s : List Station). record { answer = Refused why; done = d; slots = s })
+    (falses (length (take n slots)) (length (drop n slots)) ∙ ap (λ (x : ℕ). replicate x false) all) (take-append-drop n slots)
+
+pub bench-promise : {o : BenchTurn} (n : ℕ) (slots : List Station) (draws : List ℕ)
+    → o ≡ judged (slotCauses n slots draws) (beside (drop n slots) (turnAll (take n slots) (take n draws))) (benchRefused slots)
+    → (o ≡ benchOf n slots draws) × (benchReport (o .answer) ≡ judged (slotCauses n slots draws) (reports (lineOf (take n slots) ∷ [])) refuses)
+unfolding benchOf benchOn turnAll
 bench-promise n slots draws e =
     let report : BenchTurn → Report ℕ = λ o. benchReport (o .answer) in
-    (e, ap report e ∙ judged-map report _ _ (benchCauses n slots draws))
+    let turn : BenchTurn = turnAll (take n slots) (take n draws) in
+    let cs : List Cause = slotCauses n slots draws in
+    let same = fun-ext {f = λ why. beside (drop n slots) (benchRefused (take n slots) why)} {g = benchRefused slots} (refused-in-slots n slots) in (
+      e
+          ∙ ap (judged cs (beside (drop n slots) turn)) (sym same)
+          ∙ sym (judged-map (beside (drop n slots)) turn (benchRefused (take n slots)) cs),
+      ap report e ∙ judged-map report _ _ cs,
+    )

@@ -6,12 +6,12 @@
 --     by-done, by-going                          the turn that a move's numbers stand for
 --     send-promise, load-promise, turn-promise   what each answer reports, by its causes
 use mathlib.Core.Path.{_≡_, refl, sym, ap, subst, _∙_}
-use mathlib.Core.Bool.{Bool, true, false, and-eq-true-iff}
+use mathlib.Core.Bool.{Bool, true, false, _||_, or-false, and-eq-true-iff}
 use mathlib.Core.List.{[], _∷_}
 use Prim.Native.Nat.{ℕ, _+_, _≤_, _<_}
 use native.Mathlib.Omega.{arith}
 use native.Mathlib.Decide.{decLt}
-use borrow.Author.Tests.{leb-true, ltb-true, eq-eqb, ne-eqb, le-leb}
+use borrow.Author.Tests.{leb-true, ltb-true, eqb-true, eq-eqb, ne-eqb, le-leb, lt-leb}
 use lib.Dec.{eqb, leb, ltb}
 use lib.ListN.{getD}
 use Rattle.ground.specs.Choice.{pick}
@@ -20,6 +20,7 @@ use Rattle.ground.specs.declared.Refusal.{Refusal}
 use Rattle.ground.specs.declared.Refusal.the-variants as refusal
 use Rattle.ground.proofs.Choices.{pick-both}
 use Rattle.ground.proofs.Causes.{judged-map}
+use Rattle.message.specs.Messages.{messageOk}
 use Rattle.message.specs.declared.Message.{Message}
 use Rattle.burst.specs.Frames.{burstOf, burstLength}
 use Rattle.station.specs.Stations.{emptyStation, loaded, drawOk, heldOk, stationOk, loadOf, loadCauses, loadReport, heldSends, sendsOf, sendOf}
@@ -106,6 +107,15 @@ module _ {s : Station} {sent heard draw : ℕ} (r : Movable s sent heard draw) w
         let tail = and-eq-true-iff (leb (s .count) (s .wait)) _ .0 rest .1 in
         ltb-true (s .place) (burstLength m) (and-eq-true-iff (ltb (s .place) (burstLength m)) _ .0 tail .0)
 
+    -- one that waits has sent nothing
+    unsent : s .count < s .wait → s .place ≡ 0
+    unsent l =
+        let rest = and-eq-true-iff (drawOk (s .wait)) _ .0 held-ok .1 in
+        let tail = and-eq-true-iff (leb (s .count) (s .wait)) _ .0 rest .1 in
+        let none = and-eq-true-iff (ltb (s .place) (burstLength m)) _ .0 tail .1 in
+        let early = and-eq-true-iff (eqb (s .place) 0 || leb (s .wait) (s .count)) (messageOk m) .0 none .0 in
+        eqb-true (s .place) 0 (sym (or-false (eqb (s .place) 0)) ∙ (rw (lt-leb (s .wait) (s .count) l) at early))
+
     sends-burst : s .wait ≤ s .count → getD (burstOf m) (s .place) 0 ≡ sent
     sends-burst l = sym (ap (λ (b : Bool). pick b (getD (burstOf m) (s .place) 0) 0) (level l)) ∙ held-sends
 
@@ -122,10 +132,12 @@ module _ {s : Station} {sent heard draw : ℕ} (r : Movable s sent heard draw) w
 
     module _ (same : sent ≡ heard) where
       pub turn-counts : s .count < s .wait
-          → turnOf s heard draw ≡ going (record { held = Holds m; wait = s .wait; count = s .count + 1; place = 0 })
+          → turnOf s heard draw ≡ going (record { held = Holds m; wait = s .wait; count = s .count + 1; place = s .place })
       turn-counts l =
           let clear = waits-clear l in
-          turn-holds ∙ rw (ne-eqb (s .count) (s .wait) (λ q. omega arith), ne-eqb heard 1 (λ q. omega arith))
+          turn-holds
+          ∙ rw (ne-eqb (s .count) (s .wait) (λ q. omega arith), ne-eqb heard 1 (λ q. omega arith))
+          (ap (λ (p : ℕ). going (record { held = Holds m; wait = s .wait; count = s .count + 1; place = p })) (sym (unsent l)))
 
       pub turn-goes : s .wait ≤ s .count → s .place + 1 < burstLength m
           → turnOf s heard draw ≡ going (record { held = Holds m; wait = s .wait; count = s .count; place = s .place + 1 })

@@ -13,4 +13,5 @@ pub record StationLowest : Type 0 where
   pub load : (s : Station) (m : Message) (draw : ℕ) → lowest (loadCauses s m draw) ≡ numberGiven (loadCauses s m draw)
   pub sends : (s : Station) → lowest (sendCauses s) ≡ numberGiven (sendCauses s)
   pub advance : (s : Station) (heard draw : ℕ) → lowest (turnCauses s heard draw) ≡ numberGiven (turnCauses s heard draw)
-  pub half-cycle : (n : ℕ) (slots : List Station) (draws : List ℕ) → lowest (benchCauses n slots draws) ≡ numberGiven (benchCauses n slots draws)
+  pub half-cycle : (most n : ℕ) (stations : List Station) (draws : List ℕ)
+      → lowest (benchCauses most n stations draws) ≡ numberGiven (benchCauses most n stations draws)

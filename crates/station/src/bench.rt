@@ -12,10 +12,10 @@ ghost use mathlib.Core.Path.{_≡_};
 ghost use mathlib.Core.Bool.{true};
 ghost use mathlib.Core.List.{map, _∷_, []};
 ghost use Prim.Native.Nat.{_≤_};
-ghost use lib.ListN.{length, take};
+ghost use lib.ListN.{length, take, drop};
 ghost use Rattle.ground.specs.Refusals.{judged, reports, refuses, refusalNumber};
 ghost use Rattle.station.specs.Stations.{sendsOf};
-ghost use Rattle.station.specs.Benches.{lineOf, stationsOk, drawsOk, turnAll, benchRefused, benchCauses, benchOf, benchReport};
+ghost use Rattle.station.specs.Benches.{lineOf, stationsOk, drawsOk, turnAll, benchRefused, slotCauses, beside, benchOf, benchReport};
 
 // How many stations a bench has at most.
 pub const SLOTS: usize = 16;
@@ -67,7 +67,7 @@ fn move_all(slots: [Station; 16], n: usize, draws: [u8; 16], line: u8, sent: [u8
     requires { ⌜ stationsOk (take n slots) ≡ true ⌝ }
     requires { ⌜ drawsOk (take n draws) ≡ true ⌝ }
     requires { ⌜ (line ≡ lineOf (take n slots)) × (take n sent ≡ map sendsOf (take n slots)) ⌝ }
-    ensures { λ o. ⌜ o ≡ turnAll n slots draws ⌝ }
+    ensures { λ o. ⌜ o ≡ beside (drop n slots) (turnAll (take n slots) (take n draws)) ⌝ }
 {
     let mut after = slots;
     let mut done = [false; 16];
@@ -102,7 +102,7 @@ fn move_all(slots: [Station; 16], n: usize, draws: [u8; 16], line: u8, sent: [u8
 // as they were, and any call leaves those past n.
 pub fn half_cycle(slots: [Station; 16], n: usize, draws: [u8; 16]) -> BenchTurn
     ensures answer { λ o. ⌜ o ≡ benchOf n slots draws ⌝ }
-    ensures report { λ o. ⌜ benchReport (o .answer) ≡ judged (benchCauses n slots draws) (reports (lineOf (take n slots) ∷ [])) refuses ⌝ }
+    ensures report { λ o. ⌜ benchReport (o .answer) ≡ judged (slotCauses n slots draws) (reports (lineOf (take n slots) ∷ [])) refuses ⌝ }
 {
     if !((1 <= n) & (n <= SLOTS)) {
         return refused(Refusal::State, slots);

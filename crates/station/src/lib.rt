@@ -254,7 +254,7 @@ pub(crate) fn moves(m: Message, s: Station, sent: u8, heard: u8, draw: u8) -> Mo
             done: false,
             wait: s.wait,
             count: s.count + 1,
-            place: 0,
+            place: s.place,
         };
     }
     if s.place < burst_length(m) - 1 {

@@ -1,5 +1,5 @@
-// A page of text that may be written in any order, and drawings on it. A row of a drawing has a label of five, a hundred marks and a
-// line end.
+// A page of text that may be written in any order, and drawings on it. A row of a drawing has a label of eleven, a hundred marks and
+// a line end.
 ghost use Prim.Native.Nat.{_≤_};
 
 // One byte at a place of the page; past its end, none.
@@ -31,11 +31,11 @@ pub(crate) fn put_number(page: &mut [u8; 65536], at: usize, n: usize) -> usize {
 
 // Where a row of a drawing begins.
 pub(crate) fn row_at(drawing: usize, row: usize) -> usize
-    ensures { λ r. ⌜ r ≤ 67444 ⌝ }
+    ensures { λ r. ⌜ r ≤ 67664 ⌝ }
 {
     if drawing <= 65536 {
-        if row <= 18 {
-            return drawing + row * 106;
+        if row <= 19 {
+            return drawing + row * 112;
         }
     }
     65536
@@ -44,7 +44,7 @@ pub(crate) fn row_at(drawing: usize, row: usize) -> usize
 // Where a mark stands.
 pub(crate) fn cell(drawing: usize, row: usize, column: usize) -> usize {
     if column <= 100 {
-        return row_at(drawing, row) + 5 + column;
+        return row_at(drawing, row) + 11 + column;
     }
     65536
 }
@@ -59,19 +59,25 @@ pub(crate) fn put_ruler(page: &mut [u8; 65536], drawing: usize) {
     put(page, cell(drawing, 0, 100), b'\n');
 }
 
-// The label of the line's row.
-pub(crate) fn put_line_label(page: &mut [u8; 65536], drawing: usize) {
-    put_text(page, row_at(drawing, 1), b"line");
-    put(page, cell(drawing, 1, 100), b'\n');
+// The label of a row, and the row's end.
+pub(crate) fn put_label(page: &mut [u8; 65536], drawing: usize, row: usize, label: &[u8]) {
+    put_text(page, row_at(drawing, row), label);
+    put(page, cell(drawing, row, 100), b'\n');
 }
 
-// The labels of the stations' rows.
+// A station by its number.
+pub(crate) fn put_station_name(page: &mut [u8; 65536], at: usize, number: usize) -> usize {
+    let to = put_text(page, at, b"station ");
+    put_number(page, to, number)
+}
+
+// The labels of the stations' rows, which stand below those of the line and the receiver.
 pub(crate) fn put_labels(page: &mut [u8; 65536], drawing: usize, n: usize) {
     let mut k: usize = 0;
     while k < 16 {
         if k < n {
-            put_number(page, row_at(drawing, k + 2), k + 1);
-            put(page, cell(drawing, k + 2, 100), b'\n');
+            put_station_name(page, row_at(drawing, k + 3), k + 1);
+            put(page, cell(drawing, k + 3, 100), b'\n');
         }
         k += 1;
     }

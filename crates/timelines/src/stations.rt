@@ -1,5 +1,6 @@
 // The stations of the runs, with their messages, and the draws that each call gets.
 use crate::page::put_number;
+use crate::page::put_station_name;
 use crate::page::put_text;
 use message::Function;
 use message::Message;
@@ -86,20 +87,27 @@ fn extended(house: u8, unit: u8, data: u8, command: u8) -> Message {
     }
 }
 
-// Waits 8 and 9.
-pub(crate) fn waits_8_and_9() -> [Station; 16] {
+// Two stations with a message and a wait each.
+fn two(first: Message, wait: u8, second: Message, other: u8) -> [Station; 16] {
     let mut slots = [station::empty(); 16];
-    slots[0] = loaded(address(0, 0), 8);
-    slots[1] = loaded(address(1, 1), 9);
+    slots[0] = loaded(first, wait);
+    slots[1] = loaded(second, other);
     slots
+}
+
+// A1 and B2, with waits 8 and 9.
+pub(crate) fn waits_8_and_9() -> [Station; 16] {
+    two(address(0, 0), 8, address(1, 1), 9)
 }
 
 // A1 against B1, with equal waits.
 pub(crate) fn a_against_b() -> [Station; 16] {
-    let mut slots = [station::empty(); 16];
-    slots[0] = loaded(address(0, 0), 8);
-    slots[1] = loaded(address(1, 0), 8);
-    slots
+    two(address(0, 0), 8, address(1, 0), 8)
+}
+
+// A1 twice, with equal waits.
+pub(crate) fn a_and_a() -> [Station; 16] {
+    two(address(0, 0), 8, address(0, 0), 8)
 }
 
 // Sixteen messages: addresses, functions and extended ones, some of them equal.
@@ -163,7 +171,8 @@ fn put_byte(page: &mut [u8; 65536], at: usize, byte: u8) -> usize {
     put_text(page, at, &digits[..k])
 }
 
-fn put_message(page: &mut [u8; 65536], at: usize, m: Message) -> usize {
+// A message in words.
+pub(crate) fn put_message(page: &mut [u8; 65536], at: usize, m: Message) -> usize {
     match m {
         Message::Address { house, unit } => {
             let mut to = put_text(page, at, b"address ");
@@ -195,8 +204,8 @@ fn put_message(page: &mut [u8; 65536], at: usize, m: Message) -> usize {
 
 // One station of the list that stands before a run: its number, its message and its wait.
 fn put_station(page: &mut [u8; 65536], at: usize, number: usize, m: Message, wait: u8) -> usize {
-    let mut to = put_number(page, at, number);
-    to = put_text(page, to, b" ");
+    let mut to = put_station_name(page, at, number);
+    to = put_text(page, to, b": ");
     to = put_message(page, to, m);
     to = put_text(page, to, b", wait ");
     to = put_number(page, to, wait as usize);

@@ -368,6 +368,29 @@ pub fn stations(n: usize) -> &'static str {
     }
 }
 
+/// Why a run of a bench was refused by 7. With too short marks, it came before a 9.
+pub const DRAWS: [&str; 7] = [
+    "draw of loads",
+    "one draw too few",
+    "one draw too many",
+    "other number of draws",
+    "one draw too few, marks short",
+    "one draw too many, marks short",
+    "other number of draws, marks short",
+];
+
+pub fn draws(loads: &[u8], len: usize, asked: usize, marks_short: bool) -> &'static str {
+    if loads.iter().any(|draw| !(8..=10).contains(draw)) {
+        return DRAWS[0];
+    }
+    let names = if marks_short { &DRAWS[4..] } else { &DRAWS[1..4] };
+    match len {
+        _ if len + 1 == asked => names[0],
+        _ if len == asked + 1 => names[1],
+        _ => names[2],
+    }
+}
+
 /// What came in a run of a bench.
 pub const RUNS: [&str; 5] =
     ["no call", "one DONE", "several DONE", "every station DONE", "some calls refused"];

@@ -175,7 +175,8 @@ pub fn apply(table: &mut [u8], numbers: [u8; MESSAGE]) -> Result<usize, Refusal>
 
 /// Loads as many stations as there are `loads` and advances them once for each byte of `lines`;
 /// count: calls not refused. `lines[j]` is the line's half-cycle, or the number by which call j was
-/// refused, and `marks[2 * j..]` the stations that are DONE in it, high byte first. 2, 6, 7, 9.
+/// refused, and `marks[2 * j..]` the stations that are DONE in it, high byte first. 2, 6, 7 for a draw
+/// of `loads` or where `draws` has not one for each station and call, 9 for `marks` that are too short.
 #[inline(never)]
 pub fn bench_run(
     messages: &[u8],
@@ -195,7 +196,7 @@ pub fn bench_run(
     }
     loads.iter().copied().try_for_each(judge_draw)?;
     if draws.len() != n * lines.len() {
-        return Err(Refusal::Short);
+        return Err(Refusal::Draw);
     }
     let marks = front::<2>(marks, lines.len())?;
 

@@ -105,7 +105,8 @@ pub fn apply(table: &mut [u8], message: Message) -> Answer {
 /// Runs a bench: a station for each of `loads`, with the message at five times its place, then a
 /// call for each byte of `lines`. `lines[j]` is the line's half-cycle of call j, or 7 where a draw of
 /// it is refused, and `marks[2 * j..]` the stations that are done in it, high byte first. Count: calls
-/// not refused. Refusals: 2, 6, 7, 9.
+/// not refused. Refusals: 2, 6; 7, for a draw of `loads`, or where `draws` has not one for each station
+/// and call; 9, where `marks` is too short.
 #[inline]
 pub fn bench_run(messages: &[u8], loads: &[u8], draws: &[u8], lines: &mut [u8], marks: &mut [u8]) -> Answer {
     Answer::from_bits(unsafe {

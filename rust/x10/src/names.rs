@@ -15,7 +15,7 @@ pub mod number {
     pub const HALF: u8 = 5;
     /// No receiver, or one in no state that there is; no bench of 1 to 16 stations.
     pub const STATE: u8 = 6;
-    /// A draw that is not 8, 9 or 10.
+    /// A draw that is not 8, 9 or 10, or not a draw for each.
     pub const DRAW: u8 = 7;
     /// A lent buffer has not the length that is asked for.
     pub const SHORT: u8 = 9;

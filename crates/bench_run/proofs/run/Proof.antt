@@ -1,29 +1,21 @@
--- `run` meets its contract: the tests are those of `runCauses`, in its order; the quotient and the remainder stand for a product that could wrap.
-use mathlib.Core.Path.{_≡_, sym}
-use Prim.Native.Nat.{_*_, _/_, _%_, _<_}
+-- `run` meets its contract: the tests are those of `runCauses`, in its order, the last of them in `run_loaded`. Messages were judged before loading, so that
+-- loading is refused by a draw alone.
+use mathlib.Core.Path.{_≡_, sym, ap, _∙_}
 use native.Mathlib.Omega.{arith}
-use borrow.Author.Tests.{ne-eqb, le-leb, lt-leb}
+use borrow.Author.Tests.{le-leb, eq-eqb}
 use lib.ListN.{length}
-use Rattle.ground.specs.Refusals.{judged, refusalNumber}
+use Rattle.ground.specs.declared.CountAnswer.the-variants.{Refused}
 use Rattle.ground.specs.declared.Refusal.the-variants as refusal
-use Rattle.ground.proofs.Causes.{ladder}
-use Rattle.bench_run.specs.BenchRuns.{RunSlices, lent, runCauses, runAnswer}
-use Rattle.bench_run.proofs.RunLaws.{draws-match, draws-differ, run-refused, run-done}
+use Rattle.ground.proofs.Causes.{ladder, fine}
+use Rattle.bench_run.specs.BenchRuns.{RunSlices, lent, isLoaded, runAnswer}
+use Rattle.bench_run.proofs.RunLaws.{load-refused, first-slots, run-refused, ran, run-ran}
 use borrow.Author.Needs.{needs}
 use Rattle.bench_run.proofs.run.Statement.{statement}
 use Rattle.bench_run.proofs.run.Tie as tie
 
--- what is lent, and how many draws it has by the quotient and the remainder
+-- what is lent
 abbrev lentAt : tie.Start → RunSlices
 lentAt c = let a = c .args in lent (a .messages .now) (a .loads .now) (a .draws .now) (a .lines .now) (a .marks .now)
-
-match : (l : RunSlices) → length (l .draws) / length (l .loads) ≡ length (l .lines) → length (l .draws) % length (l .loads) ≡ 0
-    → length (l .draws) ≡ length (l .loads) * length (l .lines)
-match l = draws-match (length (l .loads)) (length (l .draws)) (length (l .lines))
-
-differ : (l : RunSlices) → 0 < length (l .loads) → length (l .draws) ≡ length (l .loads) * length (l .lines)
-    → (length (l .draws) / length (l .loads) ≡ length (l .lines)) × (length (l .draws) % length (l .loads) ≡ 0)
-differ l = draws-differ (length (l .loads)) (length (l .draws)) (length (l .lines))
 
 messages-fine-requires : tie.Need-messages-fine-requires
 messages-fine-requires c κs = search needs
@@ -55,54 +47,29 @@ returns-4 c =
     let l = lentAt (c .before .before .before .before .before .before .before .before .before .before) in
     run-refused l refusal.State (search ladder depth 12 fits 4000)
 
-draws-fine-requires : tie.Need-draws-fine-requires
-draws-fine-requires c κs = search needs
+load-all-requires : tie.Need-load-all-requires
+load-all-requires c κs = (omega (arith, c .before .if3 .left), omega (arith, c .if4 .left))
+
+enum-known-answer : tie.Need-enum-known-answer
+enum-known-answer c = search needs
+
+enum-told : tie.Need-enum-told
+enum-told c = search needs
+
+run-loaded-requires : tie.Need-run-loaded-requires
+run-loaded-requires c κs =
+    let d = c .before .before .before .before .before .before in
+    (omega (arith, d .before .before .if2 .left), omega (arith, d .before .if3 .left))
 
 returns-5 : tie.Need-returns-5
 unfolding runAnswer
 returns-5 c =
-    let l = lentAt (c .before .before .before .before .before .before .before .before .before .before .before .before) in
-    run-refused l refusal.Draw (search ladder depth 12 fits 4000)
-
-div-if6 : tie.Need-div-if6
-div-if6 c = search needs
-
-returns-6 : tie.Need-returns-6
-unfolding runAnswer
-returns-6 c =
-    let l = lentAt (c .before .before .before .before .before .before .before .before .before .before .before .before .before) in
-    let some = differ l (omega (arith, c .before .before .before .before .before .if2 .left)) in
-    let wrong = ne-eqb (length (l .draws)) (length (l .loads) * length (l .lines)) (λ e. c .if6 .taken (some e .0)) in
-    run-refused l refusal.Short (search ladder depth 12 fits 4000)
-
-rem-if7 : tie.Need-rem-if7
-rem-if7 c = search needs
-
-returns-7 : tie.Need-returns-7
-unfolding runAnswer
-returns-7 c =
-    let l = lentAt (c .before .before .before .before .before .before .before .before .before .before .before .before .before .before) in
-    let some = differ l (omega (arith, c .before .before .before .before .before .before .if2 .left)) in
-    let wrong = ne-eqb (length (l .draws)) (length (l .loads) * length (l .lines)) (λ e. c .if7 .taken (some e .1)) in
-    run-refused l refusal.Short (search ladder depth 12 fits 4000)
-
-returns-8 : tie.Need-returns-8
-unfolding runAnswer
-returns-8 c =
-    let l = lentAt (c .before .before .before .before .before .before .before .before .before .before .before .before .before .before .before) in
-    let draws = match l (c .before .before .if6 .left) (c .before .if7 .left) in
-    let short = lt-leb (2 * length (l .lines)) (length (l .marks)) (omega (arith, c .if8 .taken)) in
-    run-refused l refusal.Short (search ladder depth 12 fits 4000)
-
-slots-from-requires : tie.Need-slots-from-requires
-slots-from-requires c κs = search needs
-
-run-all-requires : tie.Need-run-all-requires
-run-all-requires c κs =
-    let early = c .before .before .before .before .before .before .before .before .before in
-    let l = lentAt (early .before .before .before .before .before .before .before .before .before) in
-    let whole = match l (c .before .before .before .before .before .if6 .left) (c .before .before .before .before .if7 .left) in
-    (omega (arith, early .if3 .left), whole, omega (arith, c .before .before .before .if8 .left))
+    let d = c .before .before .before .before .before in
+    let l = lentAt (d .before .before .before .before .before .before .before .before .before .before) in
+    let said = fine (d .before .before .before .before .messages-fine .ensures) (d .before .before .before .if1 .left) in
+    let draw = load-refused l said (d .if4 .left) _ (sym (c .before .answer .given .1) ∙ c .before .before .before .before .load-all .ensures .0) in
+    let bad = draw .1 in
+    run-refused l _ (ap Refused (draw .0) ∙ search ladder depth 12 fits 4000)
 
 same-length : tie.Need-same-length
 same-length c = search needs
@@ -110,16 +77,18 @@ same-length c = search needs
 same-length-2 : tie.Need-same-length-2
 same-length-2 c = search needs
 
-returns-9 : tie.Need-returns-9
-returns-9 c =
-    let early = c .before .before .before .before .before .before .before .before in
-    let l = lentAt (early .before .before .before .before .before .before .before .before .before .before .before .before .before .before .before) in
-    let draws = match l (early .before .before .if6 .left) (early .before .if7 .left) in
-    let marks = le-leb (2 * length (l .lines)) (length (l .marks)) (omega (arith, early .if8 .left)) in
-    let none : 0 ≡ judged (runCauses l) 0 refusalNumber = search ladder depth 12 fits 4000 in
-    let loaded = c .before .before .before .before .before .before .before .slots-from in
-    let ran = c .before .before .before .before .run-all in
-    run-done l (loaded .result) (ran .result) _ _ (loaded .ensures) (ran .ensures) (sym none)
+returns-6 : tie.Need-returns-6
+returns-6 c =
+    let loaded = c .before .before .before .before .before .before .before .before .before .before .load-all .ensures in
+    let d = c .before .before .before .before .before .before .before .before .before .before .before in
+    let l = lentAt (d .before .before .before .before .before .before .before .before .before .before) in
+    let n = length (l .loads) in
+    let all = c .before .before .before .before .before .before .before .enum-told .given .1 in
+    let calls = c .before .before .before .before .run-loaded in
+    run-ran l (ran l _ (calls .result) _ _ (first-slots l _ (loaded .1 all)) (calls .ensures))
+    (fine (d .before .before .before .before .messages-fine .ensures) (d .before .before .before .if1 .left))
+    (le-leb 1 n (omega (arith, d .before .before .if2 .left))) (le-leb n 16 (omega (arith, d .before .if3 .left))) (eq-eqb _ _ (d .if4 .left))
+    (ap isLoaded (sym (loaded .0) ∙ all))
 
 pub run-spec : {M : Type 1} → statement M
 run-spec =
@@ -131,15 +100,11 @@ run-spec =
     returns-3
     mul-if4
     returns-4
-    draws-fine-requires
+    load-all-requires
+    enum-known-answer
+    enum-told
+    run-loaded-requires
     returns-5
-    div-if6
-    returns-6
-    rem-if7
-    returns-7
-    returns-8
-    slots-from-requires
-    run-all-requires
     same-length
     same-length-2
-    returns-9)
+    returns-6)

@@ -2,7 +2,7 @@
 -- count are where they lead. A turn makes one call more.
 use Prim.Native.Nat.{_-_}
 use native.Mathlib.Omega.{arith}
-use lib.ListN.{length, length-set}
+use lib.ListN.{length, take, drop, length-set}
 use borrow.Author.Needs.{needs}
 use Rattle.bench_run.proofs.CallLaws.{Calling, calling-first, calling-next, calling-last, draws-left}
 use Rattle.bench_run.proofs.run_all.Statement.{statement}
@@ -10,7 +10,7 @@ use Rattle.bench_run.proofs.run_all.Tie as tie
 
 abbrev Inv-loop : tie.InvT-loop
 Inv-loop n draws lines₀ marks₀ turn₀ count₀ at₀ j₀ lines marks turn count at j =
-    Calling n (turn₀ .slots) draws lines₀ marks₀ lines marks (turn .slots) count at j
+    Calling n (take n (turn₀ .slots)) (drop n (turn₀ .slots)) draws lines₀ marks₀ lines marks (turn .slots) count at j
 
 abbrev μ-loop : tie.MeasureT-loop
 μ-loop n draws lines₀ marks₀ turn₀ count₀ at₀ j₀ lines marks turn count at j = length lines₀ - j
@@ -19,7 +19,7 @@ loop-holds : tie.Need-loop-holds Inv-loop μ-loop
 loop-holds c =
     let a = c .before .before .before .args in
     let p = c .before .before .before .pre in
-    calling-first (a .n) (a .slots) (a .draws .now) (a .lines .now) (a .marks .now) (p .0) (p .1) (p .2)
+    calling-first (a .n) (a .slots) (a .draws .now) (a .lines .now) (a .marks .now) (p .0) (p .1) (p .2) (p .3)
 
 draws-at-requires : tie.Need-draws-at-requires Inv-loop μ-loop
 draws-at-requires c κs =

@@ -5,10 +5,13 @@ use Rattle.timelines.proofs.run.Statement.{statement}
 use Rattle.timelines.proofs.run.Tie as tie
 
 abbrev Inv-loop : tie.InvT-loop
-Inv-loop page₀ at n fixed slots₀ next₀ drawing₀ t₀ page slots next drawing t = (t ≤ 2144)
+Inv-loop page₀ at n fixed slots₀ listener₀ next₀ drawing₀ t₀ page slots listener next drawing t = (t ≤ 2144)
 
 abbrev μ-loop : tie.MeasureT-loop
-μ-loop page₀ at n fixed slots₀ next₀ drawing₀ t₀ page slots next drawing t = 2144 - t
+μ-loop page₀ at n fixed slots₀ listener₀ next₀ drawing₀ t₀ page slots listener next drawing t = 2144 - t
+
+fresh-requires : tie.Need-fresh-requires Inv-loop μ-loop
+fresh-requires c κs = search needs
 
 put-stations-requires : tie.Need-put-stations-requires Inv-loop μ-loop
 put-stations-requires c κs = search needs
@@ -43,8 +46,23 @@ half-cycle-requires c κs = search needs
 put-column-requires : tie.Need-put-column-requires Inv-loop μ-loop
 put-column-requires c κs = search needs
 
+listen-requires : tie.Need-listen-requires Inv-loop μ-loop
+listen-requires c κs = search needs
+
+cell-requires : tie.Need-cell-requires Inv-loop μ-loop
+cell-requires c κs = search needs
+
+event-mark-requires : tie.Need-event-mark-requires Inv-loop μ-loop
+event-mark-requires c κs = search needs
+
+put-requires : tie.Need-put-requires Inv-loop μ-loop
+put-requires c κs = search needs
+
 add-t : tie.Need-add-t Inv-loop μ-loop
 add-t c = search needs
+
+put-event-requires : tie.Need-put-event-requires Inv-loop μ-loop
+put-event-requires c κs = search needs
 
 loop-less : tie.Need-loop-less Inv-loop μ-loop
 loop-less c = search needs
@@ -61,6 +79,7 @@ run-spec =
     (tie.spec
     Inv-loop
     μ-loop
+    fresh-requires
     put-stations-requires
     loop-holds
     all-empty-requires
@@ -72,7 +91,12 @@ run-spec =
     draws-at-requires
     half-cycle-requires
     put-column-requires
+    listen-requires
+    cell-requires
+    event-mark-requires
+    put-requires
     add-t
+    put-event-requires
     loop-less
     loop-again
     returns-2)

@@ -6,6 +6,7 @@ use crate::reached;
 use crate::rng::Rng;
 use crate::tally::Tally;
 use x10_model::bytes;
+use x10_model::message::Refusal;
 
 /// Calls of the longest run: as many as the slowest bench takes.
 const CALLS: usize = 134 * 16;
@@ -20,7 +21,7 @@ struct Run {
 }
 
 pub fn bench_run(rng: &mut Rng, size: usize) -> Tally {
-    let situations: [&[&str]; 2] = [&reached::STATIONS, &reached::RUNS];
+    let situations: [&[&str]; 3] = [&reached::STATIONS, &reached::DRAWS, &reached::RUNS];
     let mut run = Run {
         tally: Tally::new("bench_run", &[0, 2, 6, 7, 9], &[0, 1, 7], &situations),
         messages: Lent::new("messages", 128, rng),
@@ -54,9 +55,16 @@ impl Run {
             x10::bench_run(messages.rattle(), loads.rattle(), draws.rattle(), lines.rattle(), marks.rattle());
         let rust = bytes::bench_run(messages.rust(), loads.rust(), draws.rust(), lines.rust(), marks.rust());
         tally.reach(reached::stations(n));
-        if let Ok(count) = rust {
-            lines.after().iter().for_each(|&line| tally.wrote(line));
-            ran(tally, n, count, &marks.after()[..2 * calls]);
+        match rust {
+            Ok(count) => {
+                lines.after().iter().for_each(|&line| tally.wrote(line));
+                ran(tally, n, count, &marks.after()[..2 * calls]);
+            }
+            Err(Refusal::Draw) => {
+                let asked = n * calls;
+                tally.reach(reached::draws(&bench.loads, bench.draws.len(), asked, room < 2 * calls));
+            }
+            Err(_) => {}
         }
         let lent = &mut [messages, loads, draws, lines, marks];
         tally.case(rattle, rust, lent, || format!("{n} stations, {calls} calls"));

@@ -182,6 +182,64 @@ fn all_256_modules_in_one_slice() {
     assert_eq!(Run::over(&mut fresh(), &halves, &mut table).count, 256);
 }
 
+/// The addresses A1 and B2, and a draw to load each with.
+const TWO: [u8; 2 * MESSAGE] = [1, 0, 0, 0, 0, 1, 1, 1, 0, 0];
+const LOADS: [u8; 2] = [8, 10];
+
+/// The answer of a bench for three calls. Where it is a refusal, lines and marks are as they were.
+fn three_calls(messages: &[u8], loads: &[u8], draws: &[u8], marks_len: usize) -> Result<usize, Refusal> {
+    let (mut lines, mut marks) = ([9; 3], [9; 8]);
+    let ran = bench_run(messages, loads, draws, &mut lines, &mut marks[..marks_len]);
+    if ran.is_err() {
+        assert_eq!((lines, marks), ([9; 3], [9; 8]));
+    }
+    ran
+}
+
+#[test]
+fn as_many_draws_as_stations_and_calls() {
+    let run = |draws: &[u8], marks_len| three_calls(&TWO, &LOADS, draws, marks_len);
+    // One too few, one too many, a call's too few or too many, none; of any values, and whether or not
+    // the marks are too short as well.
+    for n in [5, 7, 4, 8, 0, 1] {
+        for marks_len in [6, 8, 5, 0] {
+            assert_eq!(run(&[8; 8][..n], marks_len), Err(Refusal::Draw), "{n} draws, {marks_len} marks");
+            assert_eq!(run(&[11; 8][..n], marks_len), Err(Refusal::Draw), "{n} draws, {marks_len} marks");
+        }
+    }
+    assert_eq!(run(&[8; 6], 5), Err(Refusal::Short));
+    assert_eq!(run(&[8; 6], 0), Err(Refusal::Short));
+    assert_eq!(run(&[8; 6], 6), Ok(3));
+    assert_eq!(run(&[8; 6], 8), Ok(3));
+    // No call takes no draw.
+    assert_eq!(bench_run(&TWO, &LOADS, &[], &mut [], &mut []), Ok(0));
+    assert_eq!(bench_run(&TWO, &LOADS, &[8], &mut [], &mut []), Err(Refusal::Draw));
+}
+
+#[test]
+fn a_call_that_is_refused_is_no_refusal_of_the_run() {
+    let (mut lines, mut marks) = ([9; 3], [9; 8]);
+    assert_eq!(bench_run(&TWO, &LOADS, &[8, 8, 8, 11, 8, 8], &mut lines, &mut marks), Ok(2));
+    assert_eq!((lines, marks), ([0, 7, 0], [0, 0, 0, 0, 0, 0, 9, 9]));
+}
+
+#[test]
+fn bench_run_refuses_in_order() {
+    let mut no_message = TWO;
+    no_message[6] = 16;
+    assert_eq!(three_calls(&no_message, &[], &[], 0), Err(Refusal::Message));
+    assert_eq!(three_calls(&no_message, &[11], &[], 0), Err(Refusal::Message));
+    assert_eq!(three_calls(&TWO, &[], &[], 0), Err(Refusal::State));
+    assert_eq!(three_calls(&TWO, &[11], &[], 0), Err(Refusal::State));
+    assert_eq!(three_calls(&TWO[..9], &[11, 8], &[], 0), Err(Refusal::State));
+    assert_eq!(three_calls(&TWO, &[8, 11], &[], 0), Err(Refusal::Draw));
+    assert_eq!(three_calls(&TWO, &[8, 11], &[8; 6], 0), Err(Refusal::Draw));
+    assert_eq!(three_calls(&TWO, &[8, 11], &[8; 6], 6), Err(Refusal::Draw));
+    assert_eq!(three_calls(&TWO, &LOADS, &[8; 5], 5), Err(Refusal::Draw));
+    assert_eq!(three_calls(&TWO, &LOADS, &[8; 6], 5), Err(Refusal::Short));
+    assert_eq!(three_calls(&TWO, &LOADS, &[8; 6], 6), Ok(3));
+}
+
 /// Bursts of messages for house A, with half-cycles damaged here and there.
 fn some_line(drawn: &mut Drawn) -> Vec<u8> {
     let messages: Vec<Message> = (0..drawn.below(5))

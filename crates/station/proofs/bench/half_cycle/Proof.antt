@@ -7,14 +7,14 @@ use mathlib.Core.Logic.{⊎-elim}
 use Prim.Native.Nat.{ℕ, _≤_, _-_}
 use native.Mathlib.Omega.{arith}
 use native.Mathlib.Numerals.{add-one}
-use borrow.Author.Tests.{leb-true, not-true, not-false}
-use lib.Dec.{leb}
-use lib.ListN.{length, getD, replicate}
+use borrow.Author.Tests.{leb-true, eq-eqb, not-true, not-false}
+use lib.Dec.{eqb, leb}
+use lib.ListN.{length, getD, take, replicate}
+use lib.Seq.{length-take-le}
 use Rattle.ground.proofs.Causes.{ladder, fine}
 use Rattle.station.proofs.SendLaws.{sends-below}
 use Rattle.station.proofs.StateLaws.{idle-told}
 use Rattle.station.proofs.TurnLaws.{sends-told, refused-told}
-use Rattle.station.specs.Benches.{benchOf}
 use Rattle.station.proofs.SlotLaws.{zeros, or-max, bench-promise}
 use Rattle.station.proofs.Loops.{Looked, looked-none, looked-more, looked-idle, looked-bad, looked-fine, looked-line}
 use Rattle.station.proofs.bench.half_cycle.Statement.{statement}
@@ -33,6 +33,18 @@ counted c = not-false _ (c .if1 .left)
 few : (c : tie.Else1 Inv-loop μ-loop) → c .before .args .n ≤ 16
 few c = let n = c .before .args .n in leb-true n 16 (and-eq-true-iff (leb 1 n) (leb n 16) .0 (counted c) .1)
 
+-- there are n slots
+placed : (c : tie.Else1 Inv-loop μ-loop) → let a = c .before .args in eqb (length (take (a .n) (a .t1))) (a .n) ≡ true
+placed c =
+    let a = c .before .args in
+    eq-eqb (length (take (a .n) (a .t1))) (a .n) (length-take-le (a .n) (a .t1) (omega (arith, few c)))
+
+-- there is a draw for each
+drawn : (c : tie.Else1 Inv-loop μ-loop) → let a = c .before .args in eqb (length (take (a .n) (a .draws))) (a .n) ≡ true
+drawn c =
+    let a = c .before .args in
+    eq-eqb (length (take (a .n) (a .draws))) (a .n) (length-take-le (a .n) (a .draws) (omega (arith, few c)))
+
 -- after the loop all n have been heard
 heard : (c : tie.After-loop Inv-loop μ-loop)
     → let a = c .before .before .before .args in
@@ -46,7 +58,6 @@ refused-requires : tie.Need-refused-requires Inv-loop μ-loop
 refused-requires c κs = search needs
 
 returns : tie.Need-returns Inv-loop μ-loop
-unfolding benchOf
 returns c =
     let a = c .before .before .args in
     bench-promise (a .n) (a .t1) (a .draws) (search (ladder, not-true))
@@ -82,15 +93,15 @@ refused-requires-2 : tie.Need-refused-requires-2 Inv-loop μ-loop
 refused-requires-2 c κs = search needs
 
 returns-2 : tie.Need-returns-2 Inv-loop μ-loop
-unfolding benchOf
 returns-2 c =
     let early = c .before .before .before .before .before .before .before .before in
     let count = counted (early .before .before) in
+    let here = placed (early .before .before) in
     let s = getD (early .before .before .before .args .t1) (early .before .loop .k) zeros in
     let bad = refused-told s _ (sym (c .before .before .before .sends .ensures .0) ∙ c .before .enum-told .given .1) in
     let wrong = looked-bad (omega (arith, few (early .before .before))) (early .loop-test .taken) zeros (early .before .loop .inv) bad in
     let a = early .before .before .before .args in
-    bench-promise (a .n) (a .t1) (a .draws) (search ladder)
+    bench-promise (a .n) (a .t1) (a .draws) (search ladder depth 8)
 
 enum-known-half : tie.Need-enum-known-half Inv-loop μ-loop
 enum-known-half c = search needs
@@ -132,12 +143,13 @@ refused-requires-3 : tie.Need-refused-requires-3 Inv-loop μ-loop
 refused-requires-3 c κs = search needs
 
 returns-3 : tie.Need-returns-3 Inv-loop μ-loop
-unfolding benchOf
 returns-3 c =
     let count = counted (c .before .before .before .before .before) in
     let all = looked-fine (heard (c .before .before .before)) in
+    let here = placed (c .before .before .before .before .before) in
+    let each = drawn (c .before .before .before .before .before) in
     let a = c .before .before .before .before .before .before .args in
-    bench-promise (a .n) (a .t1) (a .draws) (search ladder depth 8)
+    bench-promise (a .n) (a .t1) (a .draws) (search ladder depth 12)
 
 move-all-requires : tie.Need-move-all-requires Inv-loop μ-loop
 move-all-requires c κs =
@@ -147,12 +159,13 @@ move-all-requires c κs =
     (omega (arith, most), (omega (arith, most), (looked-fine all, (drawn, (looked-line all, all .kept)))))
 
 returns-4 : tie.Need-returns-4 Inv-loop μ-loop
-unfolding benchOf
 returns-4 c =
     let count = counted (c .before .before .before .before .before) in
     let all = looked-fine (heard (c .before .before .before)) in
+    let here = placed (c .before .before .before .before .before) in
+    let each = drawn (c .before .before .before .before .before) in
     let a = c .before .before .before .before .before .before .args in
-    bench-promise (a .n) (a .t1) (a .draws) (search ladder depth 8)
+    bench-promise (a .n) (a .t1) (a .draws) (search ladder depth 12)
 
 pub half-cycle-spec : {M : Type 1} → statement M
 half-cycle-spec =

@@ -29,7 +29,7 @@ loop-holds : tie.Need-loop-holds Inv-loop μ-loop
 loop-holds c =
     let a = c .args in
     let sixteen : length (a .slots) ≡ 16 = omega arith in
-    subst (λ (k : ℕ). Moving (a .n) (a .line) (a .slots) (a .t3) (a .slots) (replicate k false) 0) sixteen (moving-none (c .pre .0))
+    subst (λ (k : ℕ). Moving (a .n) (a .line) (a .slots) (a .t3) (a .slots) (replicate k false) 0) sixteen (moving-none (c .pre .0) (c .pre .1 .0))
 
 mul-s : tie.Need-mul-s Inv-loop μ-loop
 mul-s c = search needs

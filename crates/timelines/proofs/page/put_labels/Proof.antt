@@ -19,11 +19,11 @@ add-row-at c = search needs
 row-at-requires : tie.Need-row-at-requires Inv-loop μ-loop
 row-at-requires c κs = search needs
 
-add-put-number : tie.Need-add-put-number Inv-loop μ-loop
-add-put-number c = search needs
+add-put-station-name : tie.Need-add-put-station-name Inv-loop μ-loop
+add-put-station-name c = search needs
 
-put-number-requires : tie.Need-put-number-requires Inv-loop μ-loop
-put-number-requires c κs = search needs
+put-station-name-requires : tie.Need-put-station-name-requires Inv-loop μ-loop
+put-station-name-requires c κs = search needs
 
 add-cell : tie.Need-add-cell Inv-loop μ-loop
 add-cell c = search needs
@@ -55,8 +55,8 @@ put-labels-spec =
     loop-holds
     add-row-at
     row-at-requires
-    add-put-number
-    put-number-requires
+    add-put-station-name
+    put-station-name-requires
     add-cell
     cell-requires
     put-requires

@@ -1,0 +1,7 @@
+pub mod Words
+pub mod Histories
+pub mod Answers
+pub mod States
+pub mod Standing
+pub mod ReadingWhole
+pub mod Reachable

@@ -1,0 +1,1 @@
+// Theorems only: what is said by a receiver, read off all half-cycles that came.
