@@ -3,7 +3,8 @@
 --     ok-all                       the n stations are right as each of them is
 --     turnAt, turned               each station after the line's half-cycle, and its mark
 --     line-some                    the line is 0, or what some station sends
---     Turns, Called, called        a call is refused and changes nothing, or turns every station, as these say
+--     Turns, movable               what a call that is not refused gives and leaves, and what is known of each station
+--     Called, called               a call is refused and changes nothing, or turns every station, as these say
 --     bench-number, bench-refuses  valid stations are refused by their draws alone
 use mathlib.Core.Path.{_≡_, refl, sym, ap, subst, _∙_}
 use mathlib.Core.Logic.{_⊎_, inl, inr}
@@ -26,6 +27,7 @@ use Rattle.station.specs.Benches.{benchReport, lineOf, moveAll, doneAll, statio
 use Rattle.station.specs.declared.bench.BenchAnswer.the-variants.{Line}
 use Rattle.station.specs.declared.bench.BenchTurn.{BenchTurn}
 use Rattle.station.proofs.SlotLaws.{ok-in, draw-in, line-in, line-below, length-moved}
+use Rattle.station.proofs.TurnLaws.{Movable}
 use Rattle.station.proofs.BenchCases.{Judged, refuses, turns, bench-judged}
 use Rattle.bench_run.specs.Calls.{Moment, nextMoment, call}
 use Rattle.bench_laws.specs.Demand3.{drawnFor}
@@ -78,6 +80,11 @@ pub record Turns (n : ℕ) (stations : List Station) (draws : List ℕ) (h : ℕ
   pub above : (i : ℕ) → i < n → sendsOf (getD stations i emptyStation) ≤ h
   pub some : (h ≡ 0) ⊎ ((i : ℕ) × (i < n) × (sendsOf (getD stations i emptyStation) ≡ h))
   pub low : h ≤ 1
+
+-- each station has been judged, and has sent and heard
+pub movable : {n : ℕ} {stations : List Station} {draws : List ℕ} {h : ℕ} {t : BenchTurn} → Turns n stations draws h t → (i : ℕ) → i < n
+    → Movable (getD stations i emptyStation) (sendsOf (getD stations i emptyStation)) h (getD draws i 0)
+movable T i l = record { half = T .low; ok = T .ok i l; drawn = T .draw i l; is = refl; kept = T .above i l }
 
 module _ (n : ℕ) (stations : List Station) (draws : List ℕ) (many : length stations ≡ n) where
   all-turn : stationsOk stations ≡ true → length draws ≡ n → drawsOk draws ≡ true → Turns n stations draws (lineOf stations) (turnAll stations draws)

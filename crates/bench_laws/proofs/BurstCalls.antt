@@ -30,15 +30,16 @@ use Rattle.receiver_laws.proofs.Rests.{Rests, rests-ready}
 use Rattle.receiver_laws.proofs.Standing.{standsAt, eventAt, stands-last, repeat-ends}
 use Rattle.bench_run.specs.Calls.{Moment, linesOf, eventsIn, nextMoment}
 use Rattle.bench_laws.specs.Demand3.{SaysDone, SentAndHeard}
+use Rattle.bench_laws.specs.Together.{stationAt}
 use Rattle.bench_laws.proofs.BurstLaws.{burst-most, counted, countedBy, counted-append, clear-briefly}
 use Rattle.bench_laws.proofs.BenchLaws.{turnAt, Turns}
 use Rattle.bench_laws.proofs.Turns.{done-of, drawn}
 use Rattle.bench_laws.proofs.StationStates.{Front, Follows, front-more, front-less, whole, Sending, Stands, sending-half, who-sends, vacant, Outcome}
-use Rattle.bench_laws.proofs.StationStates.{outcome, ends-here, sends-still, Settles, keeps-sending, is-over, done-whole}
+use Rattle.bench_laws.proofs.StationStates.{outcome, ends-here, sends-still, keeps-sending, is-over, done-whole}
 use Rattle.bench_laws.proofs.PartHeard.{end-repeats, gives-this, says-cleanly, part-next, part-events, part-event, sent-and-heard}
 use Rattle.bench_laws.proofs.Tally.{total-grows, total-rises}
-use Rattle.bench_laws.proofs.InTurn.{Given, given-first, given-next, given-over}
-use Rattle.bench_laws.proofs.Moments.{slot, newest, Bench, Kept, Quiet, Underway, Sender, State, quiet, busy, keeps, going-right, quiet-call}
+use Rattle.bench_laws.proofs.TimesGiven.{Given, given-first, given-next, given-over}
+use Rattle.bench_laws.proofs.Moments.{newest, Bench, Kept, Quiet, Underway, Sender, State, quiet, busy, keeps, going-right, quiet-call}
 
 module _ (n : ℕ) (message : ℕ → Message) (B : Bench n message) (now : Moment) (draws : List ℕ) where
   -- ---- a burst on the line
@@ -70,10 +71,10 @@ module _ (n : ℕ) (message : ℕ → Message) (B : Bench n message) (now : Mome
         let f = F .sends .follows in
         subst (λ (hs : List ℕ). countedBy z hs ≤ 2) (f .front) (clear-briefly m z (length sent) (f .more) (same ∙ e))
 
-    out : (i : ℕ) → i < n → Outcome (message i) longer (countedBy z longer) (slot now i) (turn i)
+    out : (i : ℕ) → i < n → Outcome (message i) longer (countedBy z longer) (turn i)
     out i l =
-        subst (λ (c : ℕ). Outcome (message i) longer c (slot now i) (turn i)) (sym (counted-append z sent (h ∷ [])))
-        (outcome (message i) (B .valid i l) sent (countedBy z sent) (slot now i) (getD draws i 0) (T .draw i l) h (T .low) (T .above i l)
+        subst (λ (c : ℕ). Outcome (message i) longer c (turn i)) (sym (counted-append z sent (h ∷ [])))
+        (outcome (message i) (B .valid i l) sent (countedBy z sent) (stationAt now i) (getD draws i 0) (T .draw i l) h (T .low) (T .above i l)
         (λ e. omega (arith, few e)) (R .stations i l))
 
     -- ---- the receiver, and the answers
@@ -121,12 +122,13 @@ module _ (n : ℕ) (message : ℕ → Message) (B : Bench n message) (now : Mome
           let front : Front (message i) longer = ap (take (length longer)) e ∙ take-length longer in
           no-repeat (event i l front (omega arith) ∙ end-repeats (message i) (length sent) (omega arith))
 
-      going : (i : ℕ) → i < n → Settles (message i) longer (countedBy z longer) (slot now i) (turn i) × (isDone (turn i .answer) ≡ false)
+      going : (i : ℕ) → i < n → Stands (message i) longer (countedBy z longer) (turn i .next) × (isDone (turn i .answer) ≡ false)
       going i l = keeps-sending (omega (arith, length-longer)) (none-ends i l) (out i l)
 
       still : Sending m longer (countedBy z longer) (turn (F .who) .next)
       still =
-          sends-still m valid sent (countedBy z sent) (slot now (F .who)) h (getD draws (F .who) 0) (T .low) (T .draw (F .who) (F .below)) (F .sends) same p
+          sends-still m valid sent (countedBy z sent) (stationAt now (F .who)) h (getD draws (F .who) 0) (T .low) (T .draw (F .who) (F .below))
+          (F .sends) same p
           (countedBy z longer)
 
       given-on : (i : ℕ) → i < n → Follows (message i) longer → Given (message i) (length longer) (newest now h t ∷ now .past)
@@ -139,12 +141,12 @@ module _ (n : ℕ) (message : ℕ → Message) (B : Bench n message) (now : Mome
           → Kept n message (nextMoment now t (Line h)) × Underway n message z r longer (nextMoment now t (Line h))
           × Sender n message (countedBy z longer) longer (nextMoment now t (Line h))
       burst-goes-on K = (
-        keeps n message now draws h t T K (λ i l. going i l .0 .empties)
+        keeps n message now draws h t T K
             (going-right n message now draws h t T (λ i l. going i l .1) no-repeat gives cleanly),
         record {
           before = R .before;
           ready = R .ready;
-          stations = λ i l. subst (λ (s : Station). Stands (message i) longer (countedBy z longer) s) (sym (T .next i l)) (going i l .0 .stands);
+          stations = λ i l. subst (λ (s : Station). Stands (message i) longer (countedBy z longer) s) (sym (T .next i l)) (going i l .0);
           receiver = next-receiver;
           lines = next-lines;
           events = next-events;
@@ -169,7 +171,7 @@ module _ (n : ℕ) (message : ℕ → Message) (B : Bench n message) (now : Mome
           let more : length sent + 1 < burstLength (message i) = omega (arith, length-longer, f .more) in
           omega (arith, more, repeat-ends (message i) (length sent) (sym (event i l (f .front) (omega arith)) ∙ repeat))
 
-      over : (i : ℕ) → i < n → Settles (message i) [] (countedBy z longer) (slot now i) (turn i)
+      over : (i : ℕ) → i < n → Stands (message i) [] (countedBy z longer) (turn i .next)
       over i l = is-over (none-on i l) (out i l)
 
       our-burst : burstOf m ≡ longer
@@ -179,7 +181,8 @@ module _ (n : ℕ) (message : ℕ → Message) (B : Bench n message) (now : Mome
       our-done =
           T .says (F .who) (F .below)
           ∙ done-of
-          (ends-here m valid sent (countedBy z sent) (slot now (F .who)) h (getD draws (F .who) 0) (T .low) (T .draw (F .who) (F .below)) (F .sends) same p)
+          (ends-here m valid sent (countedBy z sent) (stationAt now (F .who)) h (getD draws (F .who) 0) (T .low) (T .draw (F .who) (F .below))
+          (F .sends) same p)
 
       all-heard : (i : ℕ) → i < n → SaysDone i (newest now h t) → SentAndHeard (message i) (newest now h t ∷ now .past)
       all-heard i l d =
@@ -200,14 +203,14 @@ module _ (n : ℕ) (message : ℕ → Message) (B : Bench n message) (now : Mome
           → Kept n message (nextMoment now t (Line h)) × Quiet n message (countedBy z longer) (nextMoment now t (Line h))
       unfolding standsAt
       burst-over K = (
-        keeps n message now draws h t T K (λ i l. over i l .empties)
+        keeps n message now draws h t T K
             (record { done = all-heard; repeats = (λ e. (F .who, F .below, our-done), λ d. repeat); gives = gives; clean = cleanly }),
         record {
           heard = 0;
           rests =
               subst (Rests 0) (ap (receiverAfter r) (take-length (burstOf m) ∙ our-burst) ∙ sym next-receiver) (stands-last m valid r (R .ready));
           near = few-clear;
-          stations = λ i l. subst (λ (s : Station). Stands (message i) [] (countedBy z longer) s) (sym (T .next i l)) (over i l .stands);
+          stations = λ i l. subst (λ (s : Station). Stands (message i) [] (countedBy z longer) s) (sym (T .next i l)) (over i l);
           bound = λ i l v.
               omega (arith, R .bound, total-rises n (newest now h t) (now .past) (F .who) (F .below) our-done, burst-most m);
           equal =
@@ -238,15 +241,15 @@ module _ (n : ℕ) (message : ℕ → Message) (B : Bench n message) (now : Mome
         → Underway n message z r sent now → Next (suc h)
     one-heard h T z r sent R = go (T .some)
       where
-        go : (suc h ≡ 0) ⊎ ((i : ℕ) × (i < n) × (sendsOf (slot now i) ≡ suc h)) → Next (suc h)
+        go : (suc h ≡ 0) ⊎ ((i : ℕ) × (i < n) × (sendsOf (stationAt now i) ≡ suc h)) → Next (suc h)
         go (inl e) = absurd (omega arith)
         go (inr (i, l, e)) =
-            let x = who-sends (message i) (B .valid i l) sent (countedBy z sent) (slot now i) (R .stations i l) (omega arith) in
+            let x = who-sends (message i) (B .valid i l) sent (countedBy z sent) (stationAt now i) (R .stations i l) (omega arith) in
             burst-next (suc h) T z r sent R (record { who = i; below = l; sends = x })
-            (sym (sending-half (message i) (B .valid i l) sent (countedBy z sent) (slot now i) x) ∙ e)
+            (sym (sending-half (message i) (B .valid i l) sent (countedBy z sent) (stationAt now i) x) ∙ e)
 
     -- a quiet line on which a burst begins
-    begins : (c : ℕ) → Quiet n message c now → (i : ℕ) → i < n → Sending (message i) [] c (slot now i) → Underway n message c (now .receiver) [] now
+    begins : (c : ℕ) → Quiet n message c now → (i : ℕ) → i < n → Sending (message i) [] c (stationAt now i) → Underway n message c (now .receiver) [] now
     unfolding receiverAfter eventsOf
     begins c Q i l x =
         let w : x .wait ≡ c = x .begun refl in
@@ -266,15 +269,15 @@ module _ (n : ℕ) (message : ℕ → Message) (B : Bench n message) (now : Mome
     quiet-next c Q zero T = let q = quiet-call n message B now draws t T c Q K in (q .0, quiet (c + 1) (q .1))
     quiet-next c Q (suc h) T = go (T .some)
       where
-        go : (suc h ≡ 0) ⊎ ((i : ℕ) × (i < n) × (sendsOf (slot now i) ≡ suc h)) → Next (suc h)
+        go : (suc h ≡ 0) ⊎ ((i : ℕ) × (i < n) × (sendsOf (stationAt now i) ≡ suc h)) → Next (suc h)
         go (inl e) = absurd (omega arith)
         go (inr (i, l, e)) =
-            let x = who-sends (message i) (B .valid i l) [] c (slot now i) (Q .stations i l) (omega arith) in
+            let x = who-sends (message i) (B .valid i l) [] c (stationAt now i) (Q .stations i l) (omega arith) in
             one-heard h T c (now .receiver) [] (begins c Q i l x)
 
     pub next-state : State n message now → (h : ℕ) → Turns n (now .stations) draws h t → Next h
     next-state (quiet c Q) h T = quiet-next c Q h T
     next-state (busy z r sent R F) zero T =
-        let sends = sending-half (message (F .who)) (B .valid (F .who) (F .below)) sent (countedBy z sent) (slot now (F .who)) (F .sends) in
+        let sends = sending-half (message (F .who)) (B .valid (F .who) (F .below)) sent (countedBy z sent) (stationAt now (F .who)) (F .sends) in
         burst-next 0 T z r sent R F (omega (arith, T .above (F .who) (F .below)))
     next-state (busy z r sent R F) (suc h) T = one-heard h T z r sent R

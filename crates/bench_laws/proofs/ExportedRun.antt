@@ -17,7 +17,7 @@ use Rattle.ground.specs.declared.Refusal.{Refusal}
 use Rattle.ground.proofs.Causes.{some-number, nothing-refused}
 use Rattle.message.specs.declared.Message.{Message}
 use Rattle.message.specs.declared.Message.the-variants.{Address}
-use Rattle.station.specs.Stations.{emptyStation, loadOf}
+use Rattle.station.specs.Stations.{emptyStation}
 use Rattle.station.specs.Benches.{mostStations}
 use Rattle.station.specs.declared.LoadAnswer.{LoadAnswer}
 use Rattle.station.specs.declared.LoadAnswer.the-variants.{Loaded, Refused as NotLoaded}

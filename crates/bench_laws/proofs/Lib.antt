@@ -4,7 +4,7 @@ pub mod StationStates
 pub mod PartHeard
 pub mod BenchLaws
 pub mod Tally
-pub mod InTurn
+pub mod TimesGiven
 pub mod Moments
 pub mod BurstCalls
 pub mod WholeList

@@ -10,15 +10,15 @@
 use mathlib.Core.Path.{_≡_, refl, sym, ap, ap₂, subst, _∙_}
 use mathlib.Core.Logic.{_⊎_, inl, inr, _↔_}
 use mathlib.Core.Bool.{Bool, true, false, false≢true}
-use mathlib.Core.List.{List, [], _∷_, _++_, map, map-append, flatMap, reverse, reverse-cons, reverse-append, reverse-reverse, append-nil, append-assoc}
+use mathlib.Core.List.{List, [], _∷_, _++_, map-append, flatMap, reverse, reverse-cons, reverse-append, reverse-reverse, append-nil, append-assoc}
 use Prim.Native.Nat.{ℕ, zero, suc, _+_, _*_, _/_, _%_, _^_, _≤_, _<_}
-use native.Mathlib.Nat.{div-one, le-trans, zero-div, mul-suc, mul-le-mul-left}
+use native.Mathlib.Nat.{div-one, le-trans, zero-div}
 use native.Mathlib.Decide.{ℕ-discrete}
 use native.Mathlib.Omega.{arith}
 use borrow.Author.Tests.{le-leb, eq-eqb}
 use lib.Dec.{leb}
 use lib.Pow.{shr-shr, pow-mono}
-use lib.ListN.{length, getD, take, drop, replicate, length-drop, length-map, length-reverse, take-append-drop, List·getD-eq-default}
+use lib.ListN.{length, getD, take, drop, length-drop, length-map, length-reverse, take-append-drop, List·getD-eq-default}
 use lib.Seq.{take-at, getD-at, getD-append-add, length-take-le}
 use Rattle.ground.specs.Choice.{pick}
 use Rattle.ground.specs.Refusals.{refusalNumber}
@@ -33,20 +33,20 @@ use Rattle.receiver.specs.Hearing.{eventsOf, receiverAfter, taken}
 use Rattle.receiver.specs.declared.Receiver.{Receiver}
 use Rattle.receiver.specs.declared.Event.{Event}
 use Rattle.receiver_laws.specs.Whole.{burstEvents}
-use Rattle.station.specs.Benches.{lineOf, drawsOk, turnAll, benchRefused, benchOn, benchReport, mostStations}
+use Rattle.station.specs.Benches.{lineOf, drawsOk, turnAll, benchOn, benchReport, mostStations}
 use Rattle.station.specs.declared.Station.{Station}
 use Rattle.station.specs.declared.bench.BenchAnswer.{BenchAnswer}
-use Rattle.station.specs.declared.bench.BenchAnswer.the-variants.{Line, Refused}
+use Rattle.station.specs.declared.bench.BenchAnswer.the-variants.{Line}
 use Rattle.station.specs.declared.bench.BenchTurn.{BenchTurn}
 use Rattle.station.proofs.SlotLaws.{line-below}
+use Rattle.station.proofs.Loops.{getD-same}
 use Rattle.station.proofs.BenchCases.{Judged, refuses, turns, bench-judged, marks-kept}
 use Rattle.bench_run.specs.Calls.{Moment, linesOf, eventsIn, atStart, nextMoment, call, run}
 use Rattle.bench_run.specs.BenchRuns.{drawsOf, callsOf, momentAfter, turnsOf, lineByte, lineBytes, doneMask, markBytes}
-use Rattle.bench_run.specs.BenchRuns.{RunSlices, stationsIn, momentIn, turnsIn, linesAfter, marksAfter}
-use Rattle.bench_run.proofs.CallLaws.{mask-below, as-many, turns-length, marks-length}
+use Rattle.bench_run.specs.BenchRuns.{stationsIn, momentIn, turnsIn, linesAfter, marksAfter}
+use Rattle.bench_run.proofs.CallLaws.{at-most-one, draws-there, mask-below, as-many, turns-length, marks-length}
 use Rattle.bench_laws.specs.Demand3.{Start, timesDone, drawnFor, SentAndHeard, Claim}
-use Rattle.bench_laws.specs.ExportedRun.{Exported}
-use Rattle.bench_laws.specs.RunInBytes.{markAt, timesMarked, RunInBytes, EveryPressIsMarked}
+use Rattle.bench_laws.specs.RunInBytes.{markAt, timesMarked, EveryPressIsMarked}
 use Rattle.bench_laws.proofs.StationStates.{mark}
 use Rattle.bench_laws.proofs.PartHeard.{part-next, part-events}
 use Rattle.bench_laws.proofs.WholeList.{demand-3}
@@ -54,16 +54,12 @@ use Rattle.bench_laws.proofs.ExportedRun.{exported-run}
 
 -- ---- marks as bits
 
-mark-low : (b : Bool) → mark b ≤ 1
-mark-low true = omega arith
-mark-low false = omega arith
-
 mask-bit : (bs : List Bool) (i : ℕ) → doneMask bs / 2 ^ i % 2 ≡ mark (getD bs i false)
 unfolding doneMask
 mask-bit [] i = ap (λ (x : ℕ). x % 2) (zero-div (2 ^ i))
-mask-bit (b ∷ bs) zero = ap (λ (x : ℕ). x % 2) (div-one (mark b + 2 * doneMask bs)) ∙ omega (arith, mark-low b)
+mask-bit (b ∷ bs) zero = ap (λ (x : ℕ). x % 2) (div-one (mark b + 2 * doneMask bs)) ∙ omega (arith, at-most-one b)
 mask-bit (b ∷ bs) (suc i) =
-    let half : (mark b + 2 * doneMask bs) / 2 ≡ doneMask bs = omega (arith, mark-low b) in
+    let half : (mark b + 2 * doneMask bs) / 2 ≡ doneMask bs = omega (arith, at-most-one b) in
     ap (λ (x : ℕ). (mark b + 2 * doneMask bs) / 2 ^ x % 2) (omega arith)
     ∙ ap (λ (x : ℕ). x % 2) (sym (shr-shr (mark b + 2 * doneMask bs) 1 i) ∙ ap (λ (x : ℕ). x / 2 ^ i) half)
     ∙ mask-bit bs i
@@ -71,11 +67,6 @@ mask-bit (b ∷ bs) (suc i) =
 -- two bytes are enough for sixteen
 mask-whole : (bs : List Bool) → length bs ≤ 16 → doneMask bs / 256 % 256 * 256 + doneMask bs % 256 ≡ doneMask bs
 mask-whole bs few = let low : doneMask bs < 2 ^ 16 = le-trans (mask-below bs) (pow-mono few) in omega (arith, low)
-
-none-marked : (k i : ℕ) → getD (replicate k false) i false ≡ false
-none-marked zero i = refl
-none-marked (suc k) zero = refl
-none-marked (suc k) (suc i) = none-marked k i
 
 -- ---- half-cycles among the bytes
 
@@ -124,7 +115,7 @@ module _ (n : ℕ) (message : ℕ → Message) (draw : ℕ → ℕ) (stations : 
           ap (λ (o : BenchTurn). benchReport (o .answer) .number) (sym e) ∙ claim j .refused (drawsOf n draws j) in
           let bad = seven why (drawnFor n (drawsOf n draws j)) number in
           stays (bad .0) (ap (λ (o : BenchTurn). lineByte (o .answer)) e ∙ bad .1)
-          (λ i. ap (λ (o : BenchTurn). getD (o .done) i false) e ∙ none-marked (length (moment j .stations)) i)
+          (λ i. ap (λ (o : BenchTurn). getD (o .done) i false) e ∙ getD-same (length (moment j .stations)) i false)
           (ap (λ (o : BenchTurn). nextMoment (moment j) o (o .answer)) e)
       go (turns p m q r s) e =
           goes (rw (eq-eqb (length (drawsOf n draws j)) n r) s) (lineOf (moment j .stations)) (line-below (moment j .stations))
@@ -328,13 +319,6 @@ module _ (n : ℕ) (message : ℕ → Message) (draw : ℕ → ℕ) (stations : 
 
 -- ---- what is lent
 
--- the draws of call j are there
-enough-left : (n j k : ℕ) (draws : List ℕ) → j < k → length draws ≡ n * k → n ≤ length (drop (n * j) draws)
-enough-left n j k draws h whole =
-    let next : n * suc j ≡ n * j + n = mul-suc n j in
-    let upto : n * suc j ≤ n * k = mul-le-mul-left n h in
-    omega (arith, length-drop (n * j) draws)
-
 pub every-press-is-marked : EveryPressIsMarked
 unfolding momentIn turnsIn
 every-press-is-marked l none =
@@ -351,7 +335,7 @@ every-press-is-marked l none =
     let times : (i : ℕ) → timesMarked (marksAfter l) i k ≡ timesDone i (momentIn l .past) =
     λ i. ap (λ (b : List ℕ). timesMarked b i k) (E .marks) ∙ marks-counted n (E .message) draw (stationsIn l) S (l .draws) k i _ k (omega arith) in
     let draws-long : (j : ℕ) → j < k → length (drawsOf n (l .draws) j) ≡ n =
-    λ j h. length-take-le n (drop (n * j) (l .draws)) (enough-left n j k (l .draws) h (E .drawn)) in
+    λ j h. length-take-le n (drop (n * j) (l .draws)) (omega (arith, length-drop (n * j) (l .draws), draws-there n j k (length (l .draws)) h (E .drawn))) in
     record {
       message = E .message;
       says = E .says;

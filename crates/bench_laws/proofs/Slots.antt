@@ -5,18 +5,17 @@
 --     demand-3-in-slots   the theorem of specs/Slots.antt
 use mathlib.Core.Path.{_≡_, refl, sym, ap, ap₂, subst, _∙_}
 use mathlib.Core.Bool.{Bool, false}
-use mathlib.Core.List.{List, [], _∷_, _++_}
+use mathlib.Core.List.{List, [], _∷_}
 use Prim.Native.Nat.{ℕ}
 use lib.ListN.{length, take, drop, replicate}
 use lib.Seq.{take-at, drop-at}
-use Rattle.message.specs.declared.Message.{Message}
 use Rattle.station.specs.Benches.{mostStations, benchOn, benchReport, beside}
 use Rattle.station.specs.declared.Station.{Station}
 use Rattle.station.specs.declared.bench.BenchTurn.{BenchTurn}
 use Rattle.station.proofs.BenchCases.{length-kept, marks-kept, reads-the-first}
 use Rattle.bench_run.specs.Calls.{Moment, atStart, nextMoment, call, run}
 use Rattle.bench_run.proofs.CallLaws.{as-many}
-use Rattle.bench_laws.specs.Demand3.{Start, Claim}
+use Rattle.bench_laws.specs.Demand3.{Claim}
 use Rattle.bench_laws.specs.Slots.{Supplied, slotTurn, firstOf, slotCall, slotRun, Demand3InSlots}
 use Rattle.bench_laws.proofs.WholeList.{demand-3}
 

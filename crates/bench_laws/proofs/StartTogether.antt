@@ -23,6 +23,7 @@ use Rattle.station.specs.declared.Held.{Held}
 use Rattle.station.specs.declared.Station.{Station}
 use Rattle.station.specs.declared.bench.BenchAnswer.the-variants.{Line}
 use Rattle.station.specs.declared.bench.BenchTurn.{BenchTurn}
+use Rattle.station.proofs.StateLaws.{fine-station}
 use Rattle.station.proofs.TurnLaws.{Movable}
 use Rattle.bench_run.specs.Calls.{Moment, linesOf, nextMoment, call, run}
 use Rattle.bench_run.proofs.CallLaws.{as-many}
@@ -30,9 +31,9 @@ use Rattle.bench_laws.specs.Demand3.{timesDone}
 use Rattle.bench_laws.specs.Together.{stationAt, Valid, Starts, Quiet, Greatest, Later, DoneAtTheEnd, GreatestWins, GreatestFinishes}
 use Rattle.bench_laws.specs.Together.{EqualsFinishTogether}
 use Rattle.bench_laws.proofs.BurstLaws.{burst-some}
-use Rattle.bench_laws.proofs.StationStates.{mark, vacant}
-use Rattle.bench_laws.proofs.BenchLaws.{Turns, turnAt, Called, refused, taken, called}
-use Rattle.bench_laws.proofs.Tracks.{Carried, carried-more, fine, Along, along-start, along-half, along-turn, along-ends, empties, Both}
+use Rattle.bench_laws.proofs.StationStates.{mark, vacant, empties}
+use Rattle.bench_laws.proofs.BenchLaws.{Turns, turnAt, Called, refused, taken, called, movable}
+use Rattle.bench_laws.proofs.Tracks.{Carried, carried-more, Along, along-start, along-half, along-turn, along-ends, Both}
 use Rattle.bench_laws.proofs.Tracks.{along, both-turn, both-vacant, Beside, beside-start, beside-sends, beside-turn}
 
 -- a call that is not refused
@@ -48,7 +49,7 @@ module _ {n : ℕ} (x : Moment) (a : Taken n x) where
 
   module _ (i : ℕ) (l : i < n) where
     moving : Movable (stationAt x i) (sendsOf (stationAt x i)) (a .line) (getD (a .draws) i 0)
-    moving = record { half = a .turns .low; ok = a .turns .ok i l; drawn = a .turns .draw i l; is = refl; kept = a .turns .above i l }
+    moving = movable (a .turns) i l
 
     moved : stationAt after i ≡ turnAt (a .line) (x .stations) (a .draws) i .next
     moved = a .turns .next i l
@@ -132,7 +133,7 @@ module _ (most n : ℕ) (now : Moment) (A : Valid n now) where
       half = getD (burstOf m) k 0
 
       valid : messageOk m ≡ true
-      valid = fine m (stationAt now w) (G .starts .holds) (A .valid w (G .below)) .valid
+      valid = fine-station m (stationAt now w) (G .starts .holds) (A .valid w (G .below)) .valid
 
       none-ahead : (i : ℕ) → i < n → sendsOf (stationAt x i) ≤ half
       none-ahead i l = beside-sends (moving x a i l) m k short valid (λ g st. G .greatest i l g st) (R .others i l)

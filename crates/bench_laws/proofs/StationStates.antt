@@ -4,7 +4,7 @@
 --     Front, Follows          a message's burst begins with what was sent; and is not over
 --     Sending, Stands, stands-ok     the three ways in which a station stands: gone, waiting, sending
 --     sending-half, who-sends     what such a station sends
---     vacant                  1 for an empty station
+--     vacant, empties         1 for an empty station; one is newly empty exactly where it says DONE
 --     ends-here, sends-still  a station that sends what is heard, at its burst's end and before
 --     Outcome, outcome        what a half-cycle makes of a station, by the line's half-cycle
 --     keeps-sending, is-over  a burst that goes on, and one that ends, leave the stations standing so
@@ -18,7 +18,10 @@ use native.Mathlib.Decide.{ℕ-discrete}
 use native.Mathlib.Omega.{arith}
 use lib.ListN.{length, getD, take, length-append}
 use lib.Seq.{take-suc, take-all, take-take, take-append-seam, getD-take, getD-append-seam}
+use borrow.Author.Tests.{le-leb}
+use lib.Dec.{eqb}
 use Rattle.ground.specs.Choice.{pick}
+use Rattle.ground.specs.Refusals.{judged}
 use Rattle.message.specs.Messages.{messageOk}
 use Rattle.message.specs.declared.Message.{Message}
 use Rattle.burst.specs.Frames.{burstOf, burstLength}
@@ -26,7 +29,11 @@ use Rattle.burst.proofs.FrameLaws.{burst-length}
 use Rattle.station.specs.declared.Station.{Station}
 use Rattle.station.specs.declared.Turn.{Turn}
 use Rattle.station.specs.declared.TurnAnswer.the-variants.{Done}
-use Rattle.station.specs.Stations.{emptyStation, drawOk, stationOk, isEmpty, sendsOf, turnOf, isDone}
+use Rattle.station.specs.Stations.{emptyStation, drawOk, stationOk, loaded, isEmpty, sendsOf, heldMoves, turnOf, isDone}
+use Rattle.station.specs.declared.Held.{Held}
+use Rattle.station.specs.declared.Held.the-variants.{Empty, Holds}
+use Rattle.station.proofs.SendLaws.{no-fault}
+use Rattle.station.proofs.TurnLaws.{Movable}
 use Rattle.bench_laws.proofs.BurstLaws.{burst-some, burst-first, counted}
 use Rattle.bench_laws.proofs.Turns.{holding, goes, next-of, done-of, drawn, empty-turn, waiting-ok, sending-ok, waiting-sends, sending-sends}
 use Rattle.bench_laws.proofs.Turns.{waiting-turn, ends-turn, sends-turn, yields-turn}
@@ -85,6 +92,31 @@ mark b = pick b 1 0
 abbrev pub vacant : Station → ℕ
 vacant s = mark (isEmpty (s .held))
 
+module _ {s : Station} {h d : ℕ} (r : Movable s (sendsOf s) h d) where
+  -- a station is newly empty exactly where it says DONE
+  abbrev Empties : Turn → Type 0
+  Empties t = vacant (t .next) ≡ mark (isDone (t .answer)) + vacant s
+
+  empties-held : (m : Message) → vacant s ≡ 0 → (a b c e : Bool)
+      → Empties (pick a (pick b (pick c (record { answer = Done; next = emptyStation }) (goes (holding m (s .wait) (s .count) (s .place + 1))))
+      (goes (loaded m d))) (goes (pick e (loaded m d) (holding m (s .wait) (s .count + 1) 0))))
+  empties-held m v true true true e = omega (arith, v)
+  empties-held m v true true false e = omega (arith, v)
+  empties-held m v true false c e = omega (arith, v)
+  empties-held m v false b c true = omega (arith, v)
+  empties-held m v false b c false = omega (arith, v)
+
+  pub empties : Empties (turnOf s h d)
+  unfolding turnOf judged
+  empties =
+      simp (le-leb h 1 (r .half), r .ok, r .drawn, no-fault (sendsOf s) h (r .kept)) (go (s .held) refl)
+    where
+      go : (x : Held) → s .held ≡ x → Empties (heldMoves x s h d)
+      go Empty e = omega arith
+      go (Holds m) e =
+          empties-held m (ap (λ (x : Held). mark (isEmpty x)) e) (eqb (s .count) (s .wait)) (eqb (getD (burstOf m) (s .place) 0) h)
+          (eqb (s .place + 1) (burstLength m)) (eqb h 1)
+
 module _ (m : Message) (valid : messageOk m ≡ true) (sent : List ℕ) (z : ℕ) where
   pub stands-ok : (s : Station) → Stands m sent z s → stationOk s ≡ true
   unfolding stationOk
@@ -105,27 +137,24 @@ module _ (m : Message) (valid : messageOk m ≡ true) (sent : List ℕ) (z : ℕ
 -- ---- one half-cycle
 
 -- h has been heard: sent is on the line with it, and those that wait have counted to z
-pub data Outcome (m : Message) (sent : List ℕ) (z : ℕ) (s : Station) (t : Turn) : Type 0 where
-  still-gone : s ≡ emptyStation → t ≡ goes emptyStation → Outcome m sent z s t
-  waits-on : (w : ℕ) → drawOk w ≡ true → z < w → vacant s ≡ 0 → t ≡ goes (holding m w z 0) → Outcome m sent z s t
-  sends-on : (w : ℕ) → drawOk w ≡ true → Follows m sent → vacant s ≡ 0 → t ≡ goes (holding m w w (length sent)) → Outcome m sent z s t
-  ends : burstOf m ≡ sent → vacant s ≡ 0 → t ≡ record { answer = Done; next = emptyStation } → Outcome m sent z s t
+pub data Outcome (m : Message) (sent : List ℕ) (z : ℕ) (t : Turn) : Type 0 where
+  still-gone : t ≡ goes emptyStation → Outcome m sent z t
+  waits-on : (w : ℕ) → drawOk w ≡ true → z < w → t ≡ goes (holding m w z 0) → Outcome m sent z t
+  sends-on : (w : ℕ) → drawOk w ≡ true → Follows m sent → t ≡ goes (holding m w w (length sent)) → Outcome m sent z t
+  ends : burstOf m ≡ sent → t ≡ record { answer = Done; next = emptyStation } → Outcome m sent z t
 
 module _ (m : Message) (valid : messageOk m ≡ true) (sent : List ℕ) (z : ℕ) (s : Station) where
   abbrev After : ℕ → ℕ → Type 0
-  After h d = Outcome m (sent ++ h ∷ []) (counted z h) s (turnOf s h d)
-
-  holds : {w c p : ℕ} → s ≡ holding m w c p → vacant s ≡ 0
-  holds e = ap vacant e
+  After h d = Outcome m (sent ++ h ∷ []) (counted z h) (turnOf s h d)
 
   -- a station that waits, at a clear half-cycle and at a 1
   waits-clear : (d w : ℕ) → drawOk d ≡ true → drawOk w ≡ true → z < w → z + 1 < 8 → s ≡ holding m w z 0 → After 0 d
   waits-clear d w hd hw l b e =
-      waits-on w hw (omega (arith, drawn w hw)) (holds e) (ap (λ (s : Station). turnOf s 0 d) e ∙ waiting-turn m w valid hw 0 d (omega arith) hd z l)
+      waits-on w hw (omega (arith, drawn w hw)) (ap (λ (s : Station). turnOf s 0 d) e ∙ waiting-turn m w valid hw 0 d (omega arith) hd z l)
 
   waits-one : (d w : ℕ) → drawOk d ≡ true → drawOk w ≡ true → z < w → s ≡ holding m w z 0 → After 1 d
   waits-one d w hd hw l e =
-      waits-on d hd (omega (arith, drawn d hd)) (holds e) (ap (λ (s : Station). turnOf s 1 d) e ∙ waiting-turn m w valid hw 1 d (omega arith) hd z l)
+      waits-on d hd (omega (arith, drawn d hd)) (ap (λ (s : Station). turnOf s 1 d) e ∙ waiting-turn m w valid hw 1 d (omega arith) hd z l)
 
   module _ (h d : ℕ) (low : h ≤ 1) (hd : drawOk d ≡ true) (x : Sending m sent z s) where
     abbrev half : ℕ
@@ -161,16 +190,16 @@ module _ (m : Message) (valid : messageOk m ≡ true) (sent : List ℕ) (z : ℕ
 
     carries-on : half ≡ h → Dec (length sent + 1 ≡ burstLength m) → After h d
     carries-on same (yes p) =
-        ends (whole m (sent ++ h ∷ []) (front-more m sent h (x .follows) same) (length-more sent h ∙ p)) (holds (x .is)) (ends-here same p)
+        ends (whole m (sent ++ h ∷ []) (front-more m sent h (x .follows) same) (length-more sent h ∙ p)) (ends-here same p)
     carries-on same (no p) =
-        sends-on (x .wait) (x .drawn-wait) (goes-further same p) (holds (x .is)) (sends-here same p)
+        sends-on (x .wait) (x .drawn-wait) (goes-further same p) (sends-here same p)
 
     -- a station that sends 0 and hears 1
     gives-way : half < h → After h d
     gives-way less =
         let one : h ≡ 1 = omega arith in
         let none : counted z h ≡ 0 = ap (counted z) one in
-        waits-on d hd (omega (arith, none, drawn d hd)) (holds (x .is))
+        waits-on d hd (omega (arith, none, drawn d hd))
         (turned (yields-turn m (x .wait) valid (x .drawn-wait) h d low hd (length sent) (x .follows .more) less)
         ∙ ap (λ (c : ℕ). goes (holding m d c 0)) (sym none))
 
@@ -180,88 +209,58 @@ module _ (m : Message) (valid : messageOk m ≡ true) (sent : List ℕ) (z : ℕ
 
   module _ (d : ℕ) (hd : drawOk d ≡ true) where
     pub outcome : (h : ℕ) → h ≤ 1 → sendsOf s ≤ h → (h ≡ 0 → z + 1 < 8) → Stands m sent z s → After h d
-    outcome h low u b (gone e) = still-gone e (ap (λ (s : Station). turnOf s h d) e ∙ empty-turn h d low hd)
+    outcome h low u b (gone e) = still-gone (ap (λ (s : Station). turnOf s h d) e ∙ empty-turn h d low hd)
     outcome zero low u b (waiting w hw l e) = waits-clear d w hd hw l (b refl) e
     outcome (suc zero) low u b (waiting w hw l e) = waits-one d w hd hw l e
     outcome (suc (suc h)) low u b (waiting w hw l e) = absurd (omega arith)
     outcome h low u b (sends x) =
         sent-or-not h d low hd x (ℕ-discrete (getD (burstOf m) (length sent) 0) h) (omega (arith, sending-half m valid sent z s x))
 
--- ---- what the half-cycle leaves
-
--- a station stands so again, and is newly vacant exactly where it said DONE
-pub record Settles (m : Message) (sent : List ℕ) (z : ℕ) (s : Station) (t : Turn) : Type 0 where
-  pub stands : Stands m sent z (t .next)
-  pub empties : vacant (t .next) ≡ mark (isDone (t .answer)) + vacant s
-
--- said nothing, and as vacant as before
-quietly : (s : Station) {s′ : Station} {t : Turn} → t ≡ goes s′ → vacant s ≡ vacant s′ → vacant (t .next) ≡ mark (isDone (t .answer)) + vacant s
-quietly s {s′} {t} e v =
-    let silent : mark (isDone (t .answer)) ≡ 0 = ap mark (done-of e) in
-    let same : vacant (t .next) ≡ vacant s′ = ap vacant (next-of e) in
-    omega arith
-
-settles-gone : {m : Message} {sent : List ℕ} {z : ℕ} {s : Station} {t : Turn} → s ≡ emptyStation → t ≡ goes emptyStation → Settles m sent z s t
-settles-gone {s = s} e p = record { stands = gone (next-of p); empties = quietly s p (ap vacant e) }
-
-settles-waiting : {m : Message} {sent : List ℕ} {z : ℕ} {s : Station} {t : Turn} (w : ℕ) → drawOk w ≡ true → z < w → vacant s ≡ 0
-    → t ≡ goes (holding m w z 0) → Settles m sent z s t
-settles-waiting {s = s} w d l v p = record { stands = waiting w d l (next-of p); empties = quietly s p v }
+-- ---- what the half-cycle leaves: a station stands so again
 
 -- the burst goes on: nothing is over
-pub keeps-sending : {m : Message} {sent : List ℕ} {z : ℕ} {s : Station} {t : Turn} → 0 < length sent → (burstOf m ≡ sent → ⊥) → Outcome m sent z s t
-    → Settles m sent z s t × (isDone (t .answer) ≡ false)
-keeps-sending l n (still-gone e p) = (settles-gone e p, done-of p)
-keeps-sending l n (waits-on w d b v p) = (settles-waiting w d b v p, done-of p)
-keeps-sending {s = s} l n (sends-on w d f v p) = (
-  record {
-    stands = sends (record { wait = w; drawn-wait = d; begun = λ e. absurd (omega arith); follows = f; is = next-of p });
-    empties = quietly s p v;
-  },
-  done-of p,
-)
-keeps-sending l n (ends e v p) = absurd (n e)
+pub keeps-sending : {m : Message} {sent : List ℕ} {z : ℕ} {t : Turn} → 0 < length sent → (burstOf m ≡ sent → ⊥) → Outcome m sent z t
+    → Stands m sent z (t .next) × (isDone (t .answer) ≡ false)
+keeps-sending l n (still-gone p) = (gone (next-of p), done-of p)
+keeps-sending l n (waits-on w d b p) = (waiting w d b (next-of p), done-of p)
+keeps-sending l n (sends-on w d f p) =
+    (sends (record { wait = w; drawn-wait = d; begun = λ e. absurd (omega arith); follows = f; is = next-of p }), done-of p)
+keeps-sending l n (ends e p) = absurd (n e)
 
 -- the burst is over: none sends on
-pub is-over : {m : Message} {sent : List ℕ} {z : ℕ} {s : Station} {t : Turn} → (Follows m sent → ⊥) → Outcome m sent z s t → Settles m [] z s t
-is-over n (still-gone e p) = settles-gone e p
-is-over n (waits-on w d b v p) = settles-waiting w d b v p
-is-over n (sends-on w d f v p) = absurd (n f)
-is-over {t = t} n (ends e v p) =
-    let empty : vacant (t .next) ≡ 1 = ap vacant (next-of p) in
-    let done : mark (isDone (t .answer)) ≡ 1 = ap mark (done-of p) in
-    record { stands = gone (next-of p); empties = omega arith }
+pub is-over : {m : Message} {sent : List ℕ} {z : ℕ} {t : Turn} → (Follows m sent → ⊥) → Outcome m sent z t → Stands m [] z (t .next)
+is-over n (still-gone p) = gone (next-of p)
+is-over n (waits-on w d b p) = waiting w d b (next-of p)
+is-over n (sends-on w d f p) = absurd (n f)
+is-over n (ends e p) = gone (next-of p)
 
-pub done-whole : {m : Message} {sent : List ℕ} {z : ℕ} {s : Station} {t : Turn} → Outcome m sent z s t → isDone (t .answer) ≡ true → burstOf m ≡ sent
-done-whole (still-gone e p) d = absurd (false≢true (sym (done-of p) ∙ d))
-done-whole (waits-on w h b v p) d = absurd (false≢true (sym (done-of p) ∙ d))
-done-whole (sends-on w h f v p) d = absurd (false≢true (sym (done-of p) ∙ d))
-done-whole (ends e v p) d = e
+pub done-whole : {m : Message} {sent : List ℕ} {z : ℕ} {t : Turn} → Outcome m sent z t → isDone (t .answer) ≡ true → burstOf m ≡ sent
+done-whole (still-gone p) d = absurd (false≢true (sym (done-of p) ∙ d))
+done-whole (waits-on w h b p) d = absurd (false≢true (sym (done-of p) ∙ d))
+done-whole (sends-on w h f p) d = absurd (false≢true (sym (done-of p) ∙ d))
+done-whole (ends e p) d = e
 
 -- a clear half-cycle while none sends
 module _ (m : Message) (valid : messageOk m ≡ true) (c d : ℕ) (hd : drawOk d ≡ true) where
   begins : Follows m []
   begins = record { front = refl; more = omega (arith, burst-some m) }
 
-  pub counts-on : (s : Station) → sendsOf s ≤ 0 → Stands m [] c s → Settles m [] (c + 1) s (turnOf s 0 d) × (isDone (turnOf s 0 d .answer) ≡ false)
+  pub counts-on : (s : Station) → sendsOf s ≤ 0 → Stands m [] c s → Stands m [] (c + 1) (turnOf s 0 d .next) × (isDone (turnOf s 0 d .answer) ≡ false)
   counts-on s u (gone e) =
       let p = ap (λ (s : Station). turnOf s 0 d) e ∙ empty-turn 0 d (omega arith) hd in
-      (settles-gone e p, done-of p)
+      (gone (next-of p), done-of p)
   counts-on s u (waiting w hw l e) = (counted-on (ℕ-discrete (c + 1) w), done-of p)
     where
       p : turnOf s 0 d ≡ goes (holding m w (c + 1) 0)
       p = ap (λ (s : Station). turnOf s 0 d) e ∙ waiting-turn m w valid hw 0 d (omega arith) hd c l
 
-      counted-on : Dec (c + 1 ≡ w) → Settles m [] (c + 1) s (turnOf s 0 d)
-      counted-on (no n) = settles-waiting w hw (omega arith) (ap vacant e) p
-      counted-on (yes q) = record {
-        stands = sends (record {
-          wait = w;
-          drawn-wait = hw;
-          begun = λ x. sym q;
-          follows = begins;
-          is = next-of p ∙ ap (λ (c : ℕ). holding m w c 0) q;
-        });
-        empties = quietly s p (ap vacant e);
-      }
+      counted-on : Dec (c + 1 ≡ w) → Stands m [] (c + 1) (turnOf s 0 d .next)
+      counted-on (no n) = waiting w hw (omega arith) (next-of p)
+      counted-on (yes q) = sends (record {
+        wait = w;
+        drawn-wait = hw;
+        begun = λ x. sym q;
+        follows = begins;
+        is = next-of p ∙ ap (λ (c : ℕ). holding m w c 0) q;
+      })
   counts-on s u (sends x) = absurd (omega (arith, sending-half m valid [] c s x ∙ burst-first m))

@@ -2,39 +2,35 @@
 -- that waits while a burst is on the line meets too few clear half-cycles in a row to begin.
 --
 --     Carried, carried-more                          the line has carried the first half-cycles of a burst
---     Fine, fine                                     what a valid station with a message has
---     empties                                        a station is newly empty exactly where it says DONE
 --     Along, along-start, along-half, along-turn, along-ends     a station that sends
 --     Both, both-turn, both-vacant                   two that started together with one message
 --     Beside, beside-start, beside-sends, beside-turn     any station beside the one whose burst the line carries
 use mathlib.Core.Path.{_≡_, refl, sym, ap, ap₂, subst, _∙_}
-use mathlib.Core.Bool.{Bool, true, false, _&&_, _||_, and-eq-true-iff}
+use mathlib.Core.Bool.{Bool, true, false, and-eq-true-iff}
 use mathlib.Core.List.{List, [], _∷_, _++_, reverse, reverse-append}
 use Prim.Native.Nat.{ℕ, zero, suc, _+_, _≤_, _<_}
 use native.Mathlib.Numerals.{add-one}
 use native.Mathlib.Decide.{ℕ-discrete}
 use native.Mathlib.Omega.{arith}
-use borrow.Author.Tests.{le-leb, leb-true, ltb-true, eqb-true, eqb-false}
-use lib.Dec.{eqb, leb, ltb}
+use borrow.Author.Tests.{eqb-true, eqb-false}
+use lib.Dec.{eqb}
 use lib.ListN.{length, getD, take}
 use lib.Seq.{take-suc, length-take-le}
 use Rattle.ground.specs.Choice.{pick}
-use Rattle.ground.specs.Refusals.{judged}
 use Rattle.message.specs.Messages.{messageOk}
 use Rattle.message.specs.declared.Message.{Message}
 use Rattle.burst.specs.Frames.{frameOf, burstOf, burstLength}
 use Rattle.burst.proofs.FrameLaws.{burst-length}
-use Rattle.station.specs.Stations.{emptyStation, drawOk, heldOk, stationOk, loaded, isEmpty, sendsOf, heldMoves, turnOf, isDone}
+use Rattle.station.specs.Stations.{emptyStation, drawOk, heldOk, stationOk, isEmpty, sendsOf, turnOf}
 use Rattle.station.specs.declared.Held.{Held}
 use Rattle.station.specs.declared.Held.the-variants.{Empty, Holds}
 use Rattle.station.specs.declared.Station.{Station}
 use Rattle.station.specs.declared.Turn.{Turn}
-use Rattle.station.specs.declared.TurnAnswer.the-variants.{Done}
-use Rattle.station.proofs.SendLaws.{no-fault}
+use Rattle.station.proofs.StateLaws.{Fine, fine-station}
 use Rattle.station.proofs.TurnLaws.{Movable}
 use Rattle.bench_laws.specs.Together.{Starts, notGreater}
 use Rattle.bench_laws.proofs.BurstLaws.{burst-first, counted, countedBy, counted-append, clear-briefly}
-use Rattle.bench_laws.proofs.Turns.{holding, goes, next-of, drawn, empty-turn, waiting-sends, sending-sends, waiting-turn, ends-turn, sends-turn}
+use Rattle.bench_laws.proofs.Turns.{holding, next-of, drawn, empty-turn, waiting-sends, sending-sends, waiting-turn, ends-turn, sends-turn}
 use Rattle.bench_laws.proofs.Turns.{yields-turn, Moves, ends, holds, moves}
 use Rattle.bench_laws.proofs.StationStates.{mark, vacant}
 use Rattle.bench_laws.proofs.Compare.{not-ahead}
@@ -55,25 +51,6 @@ carried-more m k h lines short e c =
 
 -- ---- a valid station with a message
 
-pub record Fine (m : Message) (s : Station) : Type 0 where
-  pub valid : messageOk m ≡ true
-  pub drawn-wait : drawOk (s .wait) ≡ true
-  pub counts : s .count ≤ s .wait
-  pub within : s .place < burstLength m
-
-pub fine : (m : Message) (s : Station) → s .held ≡ Holds m → stationOk s ≡ true → Fine m s
-unfolding stationOk
-fine m s e ok =
-    let all = and-eq-true-iff (drawOk (s .wait)) _ .0 (subst (λ (x : Held). heldOk x (s .wait) (s .count) (s .place) ≡ true) e ok) in
-    let counting = and-eq-true-iff (leb (s .count) (s .wait)) _ .0 (all .1) in
-    let placing = and-eq-true-iff (ltb (s .place) (burstLength m)) _ .0 (counting .1) in
-    record {
-      valid = and-eq-true-iff (eqb (s .place) 0 || leb (s .wait) (s .count)) (messageOk m) .0 (placing .1) .1;
-      drawn-wait = all .0;
-      counts = leb-true (s .count) (s .wait) (counting .0);
-      within = ltb-true (s .place) (burstLength m) (placing .0);
-    }
-
 -- it sends, at place k
 pub record Along (m : Message) (k : ℕ) (s : Station) : Type 0 where
   pub wait : ℕ
@@ -90,7 +67,7 @@ by-fields {x} {w} {c} {p} s eh ew ec ep =
 pub along-start : {m : Message} {s : Station} → stationOk s ≡ true → Starts m s → Along m 0 s
 along-start {m} {s} ok st = record {
   wait = s .wait;
-  drawn-wait = fine m s (st .holds) ok .drawn-wait;
+  drawn-wait = fine-station m s (st .holds) ok .drawn-wait;
   is = by-fields s (st .holds) refl (st .counted) (st .unsent);
 }
 
@@ -104,35 +81,11 @@ module _ {s : Station} {h d : ℕ} (r : Movable s (sendsOf s) h d) where
   turned : {s′ : Station} {t : Turn} → s ≡ s′ → turnOf s′ h d ≡ t → turnOf s h d .next ≡ t .next
   turned e p = ap (λ (s : Station). turnOf s h d .next) e ∙ next-of p
 
-  -- a station is newly empty exactly where it says DONE
-  abbrev Empties : Turn → Type 0
-  Empties t = vacant (t .next) ≡ mark (isDone (t .answer)) + vacant s
-
-  empties-held : (m : Message) → vacant s ≡ 0 → (a b c e : Bool)
-      → Empties (pick a (pick b (pick c (record { answer = Done; next = emptyStation }) (goes (holding m (s .wait) (s .count) (s .place + 1))))
-      (goes (loaded m d))) (goes (pick e (loaded m d) (holding m (s .wait) (s .count + 1) 0))))
-  empties-held m v true true true e = omega (arith, v)
-  empties-held m v true true false e = omega (arith, v)
-  empties-held m v true false c e = omega (arith, v)
-  empties-held m v false b c true = omega (arith, v)
-  empties-held m v false b c false = omega (arith, v)
-
-  pub empties : Empties (turnOf s h d)
-  unfolding turnOf judged
-  empties =
-      simp (le-leb h 1 (r .half), r .ok, r .drawn, no-fault (sendsOf s) h (r .kept)) (go (s .held) refl)
-    where
-      go : (x : Held) → s .held ≡ x → Empties (heldMoves x s h d)
-      go Empty e = omega arith
-      go (Holds m) e =
-          empties-held m (ap (λ (x : Held). mark (isEmpty x)) e) (eqb (s .count) (s .wait)) (eqb (getD (burstOf m) (s .place) 0) h)
-          (eqb (s .place + 1) (burstLength m)) (eqb h 1)
-
   -- ---- a station that sends
 
   module _ (m : Message) (k : ℕ) (a : Along m k s) where
     found : Fine m s
-    found = fine m s (ap (λ (s : Station). s .held) (a .is)) (r .ok)
+    found = fine-station m s (ap (λ (s : Station). s .held) (a .is)) (r .ok)
 
     abbrev half : ℕ
     half = getD (burstOf m) k 0
@@ -228,7 +181,7 @@ beside-start m s ok unsent = go (s .held) refl
     go (Holds g) e = counting (ℕ-discrete (s .count) (s .wait))
       where
         f : Fine g s
-        f = fine g s e ok
+        f = fine-station g s e ok
 
         counting : Dec (s .count ≡ s .wait) → Beside m 0 s s
         counting (yes c) =
@@ -244,7 +197,7 @@ module _ {s at : Station} {h d : ℕ} (r : Movable s (sendsOf s) h d) (m : Messa
   unfolding sendsOf
   beside-sends valid lower (empty p) = omega (arith, ap sendsOf p)
   beside-sends valid lower (idle g w c hw l few p) =
-      omega (arith, ap sendsOf p, waiting-sends g w (fine g s (ap (λ (s : Station). s .held) p) (r .ok) .valid) hw c l)
+      omega (arith, ap sendsOf p, waiting-sends g w (fine-station g s (ap (λ (s : Station). s .held) p) (r .ok) .valid) hw c l)
   beside-sends valid lower (level g st a same) =
       let sent : List ℕ = take k (burstOf m) in
       let long : length sent ≡ k = length-take-le k (burstOf m) (omega (arith, burst-length m)) in
@@ -269,7 +222,7 @@ module _ {s at : Station} {h d : ℕ} (r : Movable s (sendsOf s) h d) (m : Messa
     beside-turn (empty p) = empty (turned r p (empty-turn h d (r .half) (r .drawn)))
     beside-turn (idle g w c hw l few p) =
         go (eqb h 1) refl
-        (turned r p (waiting-turn g w (fine g s (ap (λ (s : Station). s .held) p) (r .ok) .valid) hw h d (r .half) (r .drawn) c l))
+        (turned r p (waiting-turn g w (fine-station g s (ap (λ (s : Station). s .held) p) (r .ok) .valid) hw h d (r .half) (r .drawn) c l))
       where
         go : (b : Bool) → eqb h 1 ≡ b → turnOf s h d .next ≡ pick b (holding g d 0 0) (holding g w (c + 1) 0)
             → Beside m (suc k) at (turnOf s h d .next)

@@ -5,7 +5,7 @@
 --     midway, otherwise              how often MESSAGE was given, by what is on the line
 --     demand-3                       the theorem of specs/Demand3.antt
 use mathlib.Core.Path.{_≡_, refl, sym, ap, subst, _∙_}
-use mathlib.Core.Bool.{Bool, true, false}
+use mathlib.Core.Bool.{true, false}
 use mathlib.Core.List.{List, [], _∷_}
 use Prim.Native.Nat.{ℕ, _+_, _*_, _≤_, _<_}
 use native.Mathlib.Decide.{ℕ-discrete, decLe}
@@ -15,18 +15,19 @@ use Rattle.message.specs.declared.Message.{Message}
 use Rattle.burst.specs.Frames.{frameLength}
 use Rattle.station.specs.Stations.{emptyStation, isEmpty, stationOk}
 use Rattle.station.specs.declared.Station.{Station}
-use Rattle.station.specs.declared.bench.BenchAnswer.the-variants.{Line}
 use Rattle.station.specs.declared.bench.BenchTurn.{BenchTurn}
 use Rattle.receiver_laws.proofs.Rests.{rests-fresh}
 use Rattle.bench_run.specs.Calls.{Moment, atStart, nextMoment, call, run}
+use Rattle.bench_run.proofs.CallLaws.{at-most-one}
 use Rattle.bench_laws.specs.Demand3.{callsEach, Start, timesDone, timesGiven, timesRepeated, SentFrame, FrameOver, drawnFor, Claim, Demand3}
+use Rattle.bench_laws.specs.Together.{stationAt}
 use Rattle.bench_laws.proofs.BurstLaws.{burst-most}
 use Rattle.bench_laws.proofs.Turns.{drawn, Accepted, accepted}
-use Rattle.bench_laws.proofs.StationStates.{Sending, Stands, gone, waiting, sends, mark, vacant}
+use Rattle.bench_laws.proofs.StationStates.{Sending, Stands, gone, waiting, sends, vacant}
 use Rattle.bench_laws.proofs.BenchLaws.{Called, refused, taken, called, bench-number, bench-refuses}
 use Rattle.bench_laws.proofs.Tally.{total, total-short}
-use Rattle.bench_laws.proofs.InTurn.{frame-some}
-use Rattle.bench_laws.proofs.Moments.{slot, Bench, Kept, State, quiet, busy, alike, all-ok}
+use Rattle.bench_laws.proofs.TimesGiven.{frame-some}
+use Rattle.bench_laws.proofs.Moments.{Bench, Kept, State, quiet, busy, alike, all-ok}
 use Rattle.bench_laws.proofs.BurstCalls.{next-state}
 
 module _ (most n : ℕ) (message : ℕ → Message) (draw : ℕ → ℕ) (stations : List Station) (S : Start most n message draw stations) where
@@ -66,23 +67,18 @@ module _ (most n : ℕ) (message : ℕ → Message) (draw : ℕ → ℕ) (statio
 
   -- ---- what is claimed
 
-  -- an empty station, or one that is not
-  marked-once : (b : Bool) → mark b ≤ 1
-  marked-once true = omega arith
-  marked-once false = omega arith
-
   module _ (now : Moment) (H : Reached now) where
     once : (i : ℕ) → i < n → timesDone i (now .past) ≤ 1
-    once i l = omega (arith, H .kept .tally i l, marked-once (isEmpty (slot now i .held)))
+    once i l = omega (arith, H .kept .tally i l, at-most-one (isEmpty (stationAt now i .held)))
 
     -- a count that a station waits or begins at is at most its wait
-    count-low : (c i : ℕ) → vacant (slot now i) ≡ 0 → Stands (message i) [] c (slot now i) → c ≤ 10
+    count-low : (c i : ℕ) → vacant (stationAt now i) ≡ 0 → Stands (message i) [] c (stationAt now i) → c ≤ 10
     count-low c i v (gone e) = absurd (omega (arith, ap vacant e))
     count-low c i v (waiting w d l e) = omega (arith, drawn w d)
     count-low c i v (sends x) = omega (arith, x .begun refl, drawn (x .wait) (x .drawn-wait))
 
     -- while one station is not done, the calls are fewer
-    not-yet : (i : ℕ) → i < n → vacant (slot now i) ≡ 0 → State n message now → length (now .past) < callsEach * n
+    not-yet : (i : ℕ) → i < n → vacant (stationAt now i) ≡ 0 → State n message now → length (now .past) < callsEach * n
     not-yet i l v s = go s (total-short n (now .past) once i l (H .kept .tally i l ∙ v))
       where
         go : State n message now → total n (now .past) < n → length (now .past) < callsEach * n
@@ -90,13 +86,13 @@ module _ (most n : ℕ) (message : ℕ → Message) (draw : ℕ → ℕ) (statio
         go (busy z r sent R F) k = omega (arith, R .bound, F .sends .follows .more, burst-most (message (F .who)))
 
     all-done : callsEach * n ≤ length (now .past) → (i : ℕ) → i < n → timesDone i (now .past) ≡ 1
-    all-done many i l = go (ℕ-discrete (vacant (slot now i)) 0)
+    all-done many i l = go (ℕ-discrete (vacant (stationAt now i)) 0)
       where
-        go : Dec (vacant (slot now i) ≡ 0) → timesDone i (now .past) ≡ 1
+        go : Dec (vacant (stationAt now i) ≡ 0) → timesDone i (now .past) ≡ 1
         go (yes v) = absurd (omega (arith, not-yet i l v (H .state)))
         go (no v) = omega (arith, H .kept .tally i l, once i l)
 
-    pub ok : (i : ℕ) → i < n → stationOk (slot now i) ≡ true
+    pub ok : (i : ℕ) → i < n → stationOk (stationAt now i) ≡ true
     ok = all-ok n message bench now (alike n message now (H .state))
 
     -- a call that its draws refuse changes nothing
@@ -107,8 +103,8 @@ module _ (most n : ℕ) (message : ℕ → Message) (draw : ℕ → ℕ) (statio
         (bench-refuses most n (now .stations) draws (S .some) (S .allowed) (H .kept .many) ok e)
 
     -- a station that has sent its first frame sends still, as much as is on the line
-    far : {sent : List ℕ} {z : ℕ} (i : ℕ) → SentFrame (message i) (slot now i) → Stands (message i) sent z (slot now i)
-        → Sending (message i) sent z (slot now i)
+    far : {sent : List ℕ} {z : ℕ} (i : ℕ) → SentFrame (message i) (stationAt now i) → Stands (message i) sent z (stationAt now i)
+        → Sending (message i) sent z (stationAt now i)
     far i u (gone e) = absurd (omega (arith, frame-some (message i), ap (λ (s : Station). s .place) e))
     far i u (waiting w d l e) = absurd (omega (arith, frame-some (message i), ap (λ (s : Station). s .place) e))
     far i u (sends x) = x
@@ -125,7 +121,7 @@ module _ (most n : ℕ) (message : ℕ → Message) (draw : ℕ → ℕ) (statio
     otherwise (quiet c Q) none = Q .equal
     otherwise (busy z r sent R F) none = go (decLe (frameLength (message (F .who))) (length sent))
       where
-        at : slot now (F .who) .place ≡ length sent
+        at : stationAt now (F .who) .place ≡ length sent
         at = ap (λ (s : Station). s .place) (F .sends .is)
 
         go : Dec (frameLength (message (F .who)) ≤ length sent) → timesGiven (now .past) ≡ timesRepeated (now .past)

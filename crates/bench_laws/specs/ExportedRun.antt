@@ -2,7 +2,7 @@
 -- leaves is read off that very list of calls. The theorem: proofs/ExportedRun.antt.
 use Prim.Native.Nat.{ℕ, _*_, _<_}
 use mathlib.Core.Path.{_≡_}
-use mathlib.Core.List.{List, _++_, flatMap}
+use mathlib.Core.List.{_++_, flatMap}
 use lib.ListN.{length, getD, drop}
 use Rattle.ground.specs.Refusals.{numberGiven}
 use Rattle.ground.specs.declared.CountAnswer.the-variants.{Done}

@@ -1,10 +1,10 @@
 -- Laws of calls one after the other.
 --
---     mask-below, mask-cons, mask-beside       the number of which stations are DONE
+--     at-most-one, mask-below, mask-cons, mask-beside       a mark; the number of which stations are DONE
 --     call-stations, call-counts               what a call leaves
 --     refused-call-leaves, as-many             RefusedCallLeaves; as many stations after any calls
 --     Calling, calling-first, calling-next     where a run of calls stands: lines and marks so far, the stations, the count
---     draws-left, calling-last                 the next call's draws are there; what all calls leave
+--     draws-there, draws-left, calling-last    the next call's draws are there; what all calls leave
 use mathlib.Core.Path.{_≡_, refl, sym, ap, ap₂, subst, _∙_}
 use mathlib.Core.Bool.{Bool, true, false}
 use mathlib.Core.List.{List, [], _∷_, _++_, map-append, flatMap, append-nil}
@@ -29,7 +29,7 @@ use Rattle.bench_run.specs.BenchRuns.{drawsOf, callsOf, momentAfter, tur
 
 -- ---- the mask
 
-at-most-one : (b : Bool) → pick {A = ℕ} b 1 0 ≤ 1
+pub at-most-one : (b : Bool) → pick {A = ℕ} b 1 0 ≤ 1
 at-most-one true = omega arith
 at-most-one false = omega arith
 
@@ -120,6 +120,13 @@ turns-length n stations draws (suc k) =
 
 -- ---- calls one after the other
 
+-- of k calls each has its draws
+pub draws-there : (n j k draws : ℕ) → j < k → draws ≡ n * k → n * j + n ≤ draws
+draws-there n j k draws more whole =
+    let next : n * suc j ≡ n * j + n = mul-suc n j in
+    let upto : n * suc j ≤ n * k = mul-le-mul-left n more in
+    omega arith
+
 -- after j calls of the stations in the first n slots, with others beyond
 pub record Calling (n : ℕ) (stations beyond : List Station) (draws lines marks linesNow marksNow : List ℕ) (current : List Station)
     (count at j : ℕ) : Type 0 where
@@ -180,10 +187,7 @@ module _ {n : ℕ} {stations beyond : List Station} {draws lines marks linesNow 
   module _ (more : j < length lines) where
     -- the next call's draws are there
     pub draws-left : at + n ≤ length draws
-    draws-left =
-        let next : n * suc j ≡ n * j + n = mul-suc n j in
-        let upto : n * suc j ≤ n * length lines = mul-le-mul-left n more in
-        omega (arith, g .place, g .whole)
+    draws-left = omega (arith, g .place, draws-there n j (length lines) (length draws) more (g .whole))
 
     module _ (o : BenchTurn) (own : List ℕ) (is : o ≡ benchOf n current own) (same : take n own ≡ take n (drop at draws)) where
       -- the call of the stations alone

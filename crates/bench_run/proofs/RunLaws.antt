@@ -15,12 +15,12 @@ use lib.Dec.{eqb, leb}
 use lib.ListN.{length, take, drop, replicate}
 use lib.Seq.{take-at}
 use Rattle.ground.specs.Choice.{pick}
-use Rattle.ground.specs.Refusals.{Cause, when, unless, judged, numberGiven, countReport}
+use Rattle.ground.specs.Refusals.{Cause, when, unless, judged, countReport}
 use Rattle.ground.specs.declared.CountAnswer.{CountAnswer}
 use Rattle.ground.specs.declared.CountAnswer.the-variants.{Done, Refused}
 use Rattle.ground.specs.declared.Refusal.{Refusal}
 use Rattle.ground.specs.declared.Refusal.the-variants as refusal
-use Rattle.ground.proofs.Causes.{judged-map, nothing-refused, lowest-given}
+use Rattle.ground.proofs.Causes.{judged-map, lowest-given}
 use Rattle.station.specs.Stations.{emptyStation}
 use Rattle.station.specs.Benches.{mostStations, drawsOk}
 use Rattle.station.specs.declared.Station.{Station}

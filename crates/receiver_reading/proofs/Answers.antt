@@ -28,7 +28,8 @@ use Rattle.receiver.proofs.ReceiverLaws.{fresh-is-valid, stays-valid}
 use Rattle.receiver_laws.specs.Whole.{lastSix}
 use Rattle.receiver_laws.proofs.Pasts.{Bits}
 use Rattle.receiver_laws.proofs.Steps.{standing, NoStart, hunts-on, hunts-start, step-first, step-second, step-equal}
-use Rattle.receiver_reading.proofs.Histories.{six, six-more, six-half}
+use Rattle.receiver_reading.specs.Standing.{pastOf}
+use Rattle.receiver_reading.proofs.Histories.{six-more, six-half}
 
 -- ---- the answer to the last half-cycle
 
@@ -95,10 +96,10 @@ state-taken r (h ∷ hs) = go (λ s. state-taken s hs) (decLe h 1)
 -- ---- the same with the last six half-cycles as `past`
 
 abbrev pub Told : List ℕ → (ℕ → Heard) → Type 0
-Told hs f = answer hs ≡ f (six hs)
+Told hs f = answer hs ≡ f (pastOf hs)
 
 abbrev pub Stood : List ℕ → Given → ℕ → ℕ → Type 0
-Stood hs g a w = state hs ≡ standing g (six hs) a w
+Stood hs g a w = state hs ≡ standing g (pastOf hs) a w
 
 -- nothing is said, and so the receiver stands
 abbrev pub goes : Given → ℕ → ℕ → ℕ → Heard
@@ -108,7 +109,7 @@ goes g a w p = says Nothing (standing g p a w)
 abbrev pub breaks : Event → ℕ → Heard
 breaks e p = says e (hunting p)
 
-pub told-stands : (hs : List ℕ) (f : ℕ → Heard) → Told hs f → state hs ≡ f (six hs) .next
+pub told-stands : (hs : List ℕ) (f : ℕ → Heard) → Told hs f → state hs ≡ f (pastOf hs) .next
 told-stands hs f t = ap (λ (o : Heard). o .next) t
 
 pub told-by : (f : ℕ → Heard) {xs ys : List ℕ} → xs ≡ ys → Told xs f → Told ys f
@@ -118,11 +119,11 @@ pub stood-by : (g : Given) (a w : ℕ) {xs ys : List ℕ} → xs ≡ ys → Stoo
 stood-by g a w e s = subst (λ (l : List ℕ). Stood l g a w) e s
 
 module _ (hs : List ℕ) (g : Given) (a w : ℕ) (s : Stood hs g a w) where
-  pub step-told : (h : ℕ) (f : ℕ → Heard) → stepOf (standing g (six hs) a w) h ≡ f (shifted (six hs) h) → Told (hs ++ h ∷ []) f
+  pub step-told : (h : ℕ) (f : ℕ → Heard) → stepOf (standing g (pastOf hs) a w) h ≡ f (shifted (pastOf hs) h) → Told (hs ++ h ∷ []) f
   step-told h f e = answer-more hs h ∙ ap (λ (r : Receiver). stepOf r h) s ∙ e ∙ ap f (sym (six-more hs h))
 
-  pub valid : receiverOk (standing g (six hs) a w) ≡ true
-  valid = valid-state hs (standing g (six hs) a w) s
+  pub valid : receiverOk (standing g (pastOf hs) a w) ≡ true
+  valid = valid-state hs (standing g (pastOf hs) a w) s
 
 pub fresh-stood : Stood [] No 0 0
 unfolding lastSix answer answered
@@ -131,26 +132,26 @@ fresh-stood = refl
 -- ---- hunting
 
 module _ (hs : List ℕ) (s : Stood hs No 0 0) where
-  hunting-valid : receiverOk (hunting (six hs)) ≡ true
+  hunting-valid : receiverOk (hunting (pastOf hs)) ≡ true
   hunting-valid = valid hs No 0 0 s
 
-  pub hunt-told : (h : ℕ) → h ≤ 1 → NoStart (six hs) h → Told (hs ++ h ∷ []) (goes No 0 0)
-  hunt-told h l n = step-told hs No 0 0 s h (goes No 0 0) (hunts-on (hunting (six hs)) hunting-valid refl h l n)
+  pub hunt-told : (h : ℕ) → h ≤ 1 → NoStart (pastOf hs) h → Told (hs ++ h ∷ []) (goes No 0 0)
+  hunt-told h l n = step-told hs No 0 0 s h (goes No 0 0) (hunts-on (hunting (pastOf hs)) hunting-valid refl h l n)
 
-  pub start-told : six hs ≡ 7 → Told (hs ++ 0 ∷ []) (goes No 5 0)
-  start-told e = step-told hs No 0 0 s 0 (goes No 5 0) (hunts-start (hunting (six hs)) hunting-valid refl e)
+  pub start-told : pastOf hs ≡ 7 → Told (hs ++ 0 ∷ []) (goes No 5 0)
+  start-told e = step-told hs No 0 0 s 0 (goes No 5 0) (hunts-start (hunting (pastOf hs)) hunting-valid refl e)
 
 -- ---- the pairs
 
 -- what a pair of different half-cycles brings, the first of them x
 abbrev pub brings : List ℕ → Given → ℕ → ℕ → ℕ → ℕ → Heard
-brings hs g n w x p = pairOf (standing g (six (hs ++ x ∷ [])) (5 + 2 * n + 1) w) (w * 2 + x) p
+brings hs g n w x p = pairOf (standing g (pastOf (hs ++ x ∷ [])) (5 + 2 * n + 1) w) (w * 2 + x) p
 
 module _ (hs : List ℕ) (g : Given) (n w : ℕ) (s : Stood hs g (5 + 2 * n) w) (x : ℕ) (l : x ≤ 1) where
   pub first-told : Told (hs ++ x ∷ []) (goes g (5 + 2 * n + 1) w)
   first-told =
       step-told hs g (5 + 2 * n) w s x (goes g (5 + 2 * n + 1) w)
-      (step-first g (six hs) (5 + 2 * n) w x (valid hs g (5 + 2 * n) w s) l (omega arith) (omega arith))
+      (step-first g (pastOf hs) (5 + 2 * n) w x (valid hs g (5 + 2 * n) w s) l (omega arith) (omega arith))
 
   half : Stood (hs ++ x ∷ []) g (5 + 2 * n + 1) w
   half = told-stands (hs ++ x ∷ []) (goes g (5 + 2 * n + 1) w) first-told
@@ -160,14 +161,14 @@ module _ (hs : List ℕ) (g : Given) (n w : ℕ) (s : Stood hs g (5 + 2 * n) w) 
       let ks = hs ++ x ∷ [] in
       told-by (breaks BrokenPair) (append-assoc hs (x ∷ []) (x ∷ []))
       (step-told ks g (5 + 2 * n + 1) w half x (breaks BrokenPair)
-      (step-equal g (six ks) (5 + 2 * n + 1) w x (valid ks g (5 + 2 * n + 1) w half) l (omega arith) (omega arith) (six-half hs x l)))
+      (step-equal g (pastOf ks) (5 + 2 * n + 1) w x (valid ks g (5 + 2 * n + 1) w half) l (omega arith) (omega arith) (six-half hs x l)))
 
   pub pair-told : w < 2 ^ 28 → Told (hs ++ x ∷ (1 - x) ∷ []) (brings hs g n w x)
   pair-told low =
       let ks = hs ++ x ∷ [] in
       let last = six-half hs x l in
-      let bits : w % 2 ^ 28 * 2 + six ks % 2 ≡ w * 2 + x = omega arith in
+      let bits : w % 2 ^ 28 * 2 + pastOf ks % 2 ≡ w * 2 + x = omega arith in
       told-by (brings hs g n w x) (append-assoc hs (x ∷ []) ((1 - x) ∷ []))
       (step-told ks g (5 + 2 * n + 1) w half (1 - x) (brings hs g n w x)
-      (step-second g (six ks) (5 + 2 * n + 1) w (1 - x) (valid ks g (5 + 2 * n + 1) w half) (omega arith) (omega arith) (omega arith) (λ q. omega arith)
-      ∙ ap (λ (b : ℕ). pairOf (standing g (six ks) (5 + 2 * n + 1) w) b (shifted (six ks) (1 - x))) bits))
+      (step-second g (pastOf ks) (5 + 2 * n + 1) w (1 - x) (valid ks g (5 + 2 * n + 1) w half) (omega arith) (omega arith) (omega arith) (λ q. omega arith)
+      ∙ ap (λ (b : ℕ). pairOf (standing g (pastOf ks) (5 + 2 * n + 1) w) b (shifted (pastOf ks) (1 - x))) bits))

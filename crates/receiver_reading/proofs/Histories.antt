@@ -2,7 +2,7 @@
 -- receiver's six are all 1 and what is looked for begins with a 0.
 --
 --     bits-append, bits-front, bits-rear, bits-pairs     lists of 0 and 1
---     six, six-more, six-low, six-half, six-bits         the last six: after one more half-cycle, of six bits
+--     six-more, six-low, six-half, six-bits              the last six: after one more half-cycle, of six bits
 --     forgets                                            what is older than six half-cycles does not count
 --     ends-append, ends-drop, ends-six                   the ends of a list
 --     begins, begun-seven                                a frame begins exactly where the six are 0 0 0 1 1 1, and then 0
@@ -19,6 +19,7 @@ use Rattle.receiver.specs.Receivers.{shifted}
 use Rattle.receiver_laws.specs.Whole.{lastSix}
 use Rattle.receiver_laws.proofs.Pasts.{six-append, Bits}
 use Rattle.receiver_reading.specs.Reading.{EndsIn, Begins}
+use Rattle.receiver_reading.specs.Standing.{pastOf}
 use Rattle.receiver_reading.proofs.Words.{bits-last, low-less}
 
 -- ---- lists of 0 and 1
@@ -60,10 +61,7 @@ last-same xs ys x y e =
 
 -- ---- the last six half-cycles
 
-abbrev pub six : List ℕ → ℕ
-six hs = lastSix 63 hs
-
-pub six-more : (hs : List ℕ) (h : ℕ) → six (hs ++ h ∷ []) ≡ shifted (six hs) h
+pub six-more : (hs : List ℕ) (h : ℕ) → pastOf (hs ++ h ∷ []) ≡ shifted (pastOf hs) h
 unfolding lastSix
 six-more hs h = six-append 63 hs (h ∷ [])
 
@@ -72,10 +70,10 @@ unfolding lastSix
 low-from p [] l b = l
 low-from p (h ∷ hs) l b = low-from (shifted p h) hs (omega (arith, b .0)) (b .1)
 
-pub six-low : (hs : List ℕ) → Bits hs → six hs ≤ 63
+pub six-low : (hs : List ℕ) → Bits hs → pastOf hs ≤ 63
 six-low hs b = low-from 63 hs (omega arith) b
 
-pub six-half : (hs : List ℕ) (h : ℕ) → h ≤ 1 → six (hs ++ h ∷ []) % 2 ≡ h
+pub six-half : (hs : List ℕ) (h : ℕ) → h ≤ 1 → pastOf (hs ++ h ∷ []) % 2 ≡ h
 six-half hs h l = rw (six-more hs h) (omega arith)
 
 -- the k latest of the six, before another half-cycle
@@ -91,17 +89,17 @@ kept p h k l low =
     ∙ ap (λ (x : ℕ). x * 2 + h) five-kept
 
 -- the six after the bits of a number
-latest : (n w : ℕ) → n ≤ 6 → w < 2 ^ n → six (bitsOf n w) % 2 ^ n ≡ w
+latest : (n w : ℕ) → n ≤ 6 → w < 2 ^ n → pastOf (bitsOf n w) % 2 ^ n ≡ w
 latest zero w l h = omega arith
 latest (suc n) w l h =
-    let i : six (bitsOf n (w / 2)) % 2 ^ n ≡ w / 2 = latest n (w / 2) (omega arith) (low-less n w h) in
-    let k = kept (six (bitsOf n (w / 2))) (w % 2) n (omega arith) (omega arith) in
+    let i : pastOf (bitsOf n (w / 2)) % 2 ^ n ≡ w / 2 = latest n (w / 2) (omega arith) (low-less n w h) in
+    let k = kept (pastOf (bitsOf n (w / 2))) (w % 2) n (omega arith) (omega arith) in
     rw (bits-last n w, six-more (bitsOf n (w / 2)) (w % 2)) (omega (arith, i, k))
 
-pub six-bits : (p : ℕ) → p ≤ 63 → six (bitsOf 6 p) ≡ p
+pub six-bits : (p : ℕ) → p ≤ 63 → pastOf (bitsOf 6 p) ≡ p
 six-bits p l =
-    let i : six (bitsOf 5 (p / 2)) % 32 ≡ p / 2 = latest 5 (p / 2) (omega arith) (omega arith) in
-    ap six (bits-last 5 p) ∙ six-more (bitsOf 5 (p / 2)) (p % 2) ∙ omega (arith, i)
+    let i : pastOf (bitsOf 5 (p / 2)) % 32 ≡ p / 2 = latest 5 (p / 2) (omega arith) (omega arith) in
+    ap pastOf (bits-last 5 p) ∙ six-more (bitsOf 5 (p / 2)) (p % 2) ∙ omega (arith, i)
 
 -- where the k latest are the same and at least six are known in the end, all six are the same
 forgets-from : (k p q : ℕ) (hs : List ℕ) → k ≤ 5 → p % 2 ^ k ≡ q % 2 ^ k → Bits hs → 6 ≤ k + length hs → lastSix p hs ≡ lastSix q hs
@@ -117,8 +115,8 @@ forgets-from k p q (h ∷ hs) l e b n =
         ap (λ (x : ℕ). lastSix (x * 2 + h) hs) same
     go (no f) i = i (omega arith)
 
-forgets : (xs ys : List ℕ) → Bits ys → 6 ≤ length ys → six (xs ++ ys) ≡ six ys
-forgets xs ys b l = six-append 63 xs ys ∙ forgets-from 0 (six xs) 63 ys (omega arith) (omega arith) b (omega arith)
+forgets : (xs ys : List ℕ) → Bits ys → 6 ≤ length ys → pastOf (xs ++ ys) ≡ pastOf ys
+forgets xs ys b l = six-append 63 xs ys ∙ forgets-from 0 (pastOf xs) 63 ys (omega arith) (omega arith) b (omega arith)
 
 -- ---- how a list ends
 
@@ -128,10 +126,10 @@ ends-append xs ys hs e = (e .0, sym (append-assoc (e .0) xs ys) ∙ ap (λ (l : 
 pub ends-drop : (xs ys hs : List ℕ) → EndsIn (xs ++ ys) hs → EndsIn ys hs
 ends-drop xs ys hs e = (e .0 ++ xs, append-assoc (e .0) xs ys ∙ e .1)
 
-pub ends-six : (xs hs : List ℕ) → EndsIn xs hs → Bits hs → 6 ≤ length xs → six hs ≡ six xs
+pub ends-six : (xs hs : List ℕ) → EndsIn xs hs → Bits hs → 6 ≤ length xs → pastOf hs ≡ pastOf xs
 ends-six xs hs e b l =
     let bits : Bits xs = bits-rear (e .0) xs (subst (λ (l : List ℕ). Bits l) (sym (e .1)) b) in
-    ap six (sym (e .1)) ∙ forgets (e .0) xs bits l
+    ap pastOf (sym (e .1)) ∙ forgets (e .0) xs bits l
 
 -- those of the empty list are all 1
 ones : (n : ℕ) → n ≤ 6 → 63 % 2 ^ n + 1 ≡ 2 ^ n
@@ -139,27 +137,27 @@ ones zero l = omega arith
 ones (suc n) l = let k = kept 63 1 n (omega arith) (omega arith) in let e = ones n (omega arith) in omega (arith, k, e)
 
 -- the n latest are the bits of v, of which the oldest is 0: then the list ends in them
-ends-bits : (n v : ℕ) (hs : List ℕ) → n ≤ 6 → v * 2 < 2 ^ n → Bits hs → six hs % 2 ^ n ≡ v → EndsIn (bitsOf n v) hs
+ends-bits : (n v : ℕ) (hs : List ℕ) → n ≤ 6 → v * 2 < 2 ^ n → Bits hs → pastOf hs % 2 ^ n ≡ v → EndsIn (bitsOf n v) hs
 unfolding bitsOf lastSix
 ends-bits zero v hs l low b e = (hs, append-nil hs)
 ends-bits (suc n) v hs l low b e = go (last-of hs b) (λ ks c q. ends-bits n (v / 2) ks (omega arith) (omega arith) c q) e
   where
-    go : {ks : List ℕ} → Last ks → ((ls : List ℕ) → Bits ls → six ls % 2 ^ n ≡ v / 2 → EndsIn (bitsOf n (v / 2)) ls)
-        → six ks % 2 ^ suc n ≡ v → EndsIn (bitsOf (suc n) v) ks
+    go : {ks : List ℕ} → Last ks → ((ls : List ℕ) → Bits ls → pastOf ls % 2 ^ n ≡ v / 2 → EndsIn (bitsOf n (v / 2)) ls)
+        → pastOf ks % 2 ^ suc n ≡ v → EndsIn (bitsOf (suc n) v) ks
     go none i q = absurd (omega (arith, ones (suc n) l))
     go (some ks h bs c) i q =
-        let k : six ks % 2 ^ n * 2 + h ≡ v = sym (kept (six ks) h n c (omega arith)) ∙ ap (λ (x : ℕ). x % 2 ^ suc n) (sym (six-more ks h)) ∙ q in
+        let k : pastOf ks % 2 ^ n * 2 + h ≡ v = sym (kept (pastOf ks) h n c (omega arith)) ∙ ap (λ (x : ℕ). x % 2 ^ suc n) (sym (six-more ks h)) ∙ q in
         let bit : v % 2 ≡ h = omega arith in
-        let half : six ks % 2 ^ n ≡ v / 2 = omega arith in
+        let half : pastOf ks % 2 ^ n ≡ v / 2 = omega arith in
         rw (bits-last n v, bit) (ends-append (bitsOf n (v / 2)) (h ∷ []) ks (i ks bs half))
 
-pub begins : (hs : List ℕ) → Bits hs → six hs ≡ 7 → Begins (hs ++ 0 ∷ [])
+pub begins : (hs : List ℕ) → Bits hs → pastOf hs ≡ 7 → Begins (hs ++ 0 ∷ [])
 unfolding bitsOf
 begins hs b e = ends-append (0 ∷ 0 ∷ 0 ∷ 1 ∷ 1 ∷ 1 ∷ []) (0 ∷ []) hs (ends-bits 6 7 hs (omega arith) (omega arith) b (omega arith))
 
-pub begun-seven : (hs : List ℕ) (h : ℕ) → Begins (hs ++ h ∷ []) → (six hs ≡ 7) × (h ≡ 0)
+pub begun-seven : (hs : List ℕ) (h : ℕ) → Begins (hs ++ h ∷ []) → (pastOf hs ≡ 7) × (h ≡ 0)
 unfolding lastSix
 begun-seven hs h e =
     let xs : List ℕ = 0 ∷ 0 ∷ 0 ∷ 1 ∷ 1 ∷ 1 ∷ [] in
     let s = last-same (e .0 ++ xs) hs 0 h (append-assoc (e .0) xs (0 ∷ []) ∙ e .1) in
-    (ap six (sym (s .0)) ∙ forgets (e .0) xs (omega arith) (omega arith), sym (s .1))
+    (ap pastOf (sym (s .0)) ∙ forgets (e .0) xs (omega arith) (omega arith), sym (s .1))

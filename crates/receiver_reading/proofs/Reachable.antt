@@ -17,7 +17,7 @@ use Rattle.message.specs.declared.Message.{Message}
 use Rattle.message.specs.declared.Message.the-variants.{Address, Function as Command, Extended}
 use Rattle.burst.specs.Frames.{bitsOf, frameOf}
 use Rattle.burst.proofs.FrameLaws.{bits-length, frame-length}
-use Rattle.receiver.specs.Receivers.{freshReceiver, hunting}
+use Rattle.receiver.specs.Receivers.{givenOk, freshReceiver, hunting}
 use Rattle.receiver.specs.Hearing.{receiverAfter}
 use Rattle.receiver.specs.declared.Given.{Given}
 use Rattle.receiver.specs.declared.Given.the-variants.{No, Yes}
@@ -29,8 +29,8 @@ use Rattle.receiver_reading.specs.Reading.{EndsIn, startMark, huntedStar
 use Rattle.receiver_reading.specs.Reading.{At, fresh, hunts as hunts-on, hunted, awaited, message}
 use Rattle.receiver_reading.specs.Standing as place
 use Rattle.receiver_reading.specs.Standing.{pastOf, StandsAfter}
-use Rattle.receiver_reading.specs.Reachable.{Sound, beginning, Reachable, hunts, awaits, reads, halfway, ReachableStates}
-use Rattle.receiver_reading.proofs.Histories.{bits-append, bits-front, bits-pairs, six, six-low, six-bits, ends-append, ends-six}
+use Rattle.receiver_reading.specs.Reachable.{beginning, Reachable, hunts, awaits, reads, halfway, ReachableStates}
+use Rattle.receiver_reading.proofs.Histories.{bits-append, bits-front, bits-pairs, six-low, six-bits, ends-append, ends-six}
 use Rattle.receiver_reading.proofs.Answers.{state, state-after, taken-bits}
 use Rattle.receiver_reading.proofs.States.{valid-message, valid-given, message-ends, where-at}
 use Rattle.receiver_reading.proofs.Standing.{stands-state, every-history-stands}
@@ -64,9 +64,9 @@ begun-long : (g : Given) → 6 ≤ length (beginning g)
 begun-long No = omega arith
 begun-long (Yes m) = omega (arith, length-append (frameOf m) startMark, frame-long m)
 
-begun-sound : (g : Given) {hs : List ℕ} → At (begun g) hs → Sound g
-begun-sound No a = tt
-begun-sound (Yes m) a = valid-given a
+begun-ok : (g : Given) {hs : List ℕ} → At (begun g) hs → givenOk g ≡ true
+begun-ok No a = refl
+begun-ok (Yes m) a = valid-given a
 
 module _ (g : Given) (hs : List ℕ) (at : At (begun g) hs) (xs : List ℕ) (b : Bits (hs ++ xs)) where
   read-is : (a w : ℕ) → standing g (pastOf (hs ++ xs)) a w ≡ standing g (pastOf (beginning g ++ xs)) a w
@@ -80,11 +80,11 @@ reach-by : {r s : Receiver} → r ≡ s → Reachable s → Reachable r
 reach-by e x = subst Reachable (sym e) x
 
 reached : {hs : List ℕ} {r : Receiver} → StandsAfter hs r → Bits hs → Reachable r
-reached (place.idles {hs} at) b = hunts (six hs) (six-low hs b)
+reached (place.idles {hs} at) b = hunts (pastOf hs) (six-low hs b)
 reached (place.awaits {hs} {m} k at l) b = reach-by (await-is m hs at k b) (awaits m k (valid-message at) l)
-reached (place.reads {hs} {g} n w at low u) b = reach-by (read-is g hs at (pairs n w) b (5 + 2 * n) w) (reads g n w (begun-sound g at) low u)
+reached (place.reads {hs} {g} n w at low u) b = reach-by (read-is g hs at (pairs n w) b (5 + 2 * n) w) (reads g n w (begun-ok g at) low u)
 reached (place.halfway {hs} {g} n w x at low u l) b =
-    reach-by (read-is g hs at (pairs n w ++ x ∷ []) b (6 + 2 * n) w) (halfway g n w x (begun-sound g at) low u l)
+    reach-by (read-is g hs at (pairs n w ++ x ∷ []) b (6 + 2 * n) w) (halfway g n w x (begun-ok g at) low u l)
 
 -- ---- the short histories
 
@@ -123,7 +123,7 @@ gives m ok = record {
   bits = bits-append (opens .history) (pairs (bitCount m) (wordOf m)) (opens .bits) (all-bits (bitCount m) (wordOf m));
 }
 
-begun-by : (g : Given) → Sound g → Ends (begun g)
+begun-by : (g : Given) → givenOk g ≡ true → Ends (begun g)
 begun-by No v = opens
 begun-by (Yes m) v =
     let f = gives m v in

@@ -35,10 +35,10 @@ use Rattle.receiver_laws.proofs.Steps.{standing, no-start-one, no-start-past}
 use Rattle.receiver_laws.proofs.Pasts.{Bits}
 use Rattle.receiver_reading.specs.Reading.{startMark, pairs, Unfinished, idle, begun, said}
 use Rattle.receiver_reading.specs.Reading.{At, fresh, hunts, lapses, follows, hunted, awaited, message, repeated, equal, unsupported}
-use Rattle.receiver_reading.specs.Standing.{StandsAfter, idles, awaits, reads, halfway, EveryHistoryStands}
+use Rattle.receiver_reading.specs.Standing.{pastOf, StandsAfter, idles, awaits, reads, halfway, EveryHistoryStands}
 use Rattle.receiver_reading.proofs.Words.{pairs-none, pairs-more, low-more, unfinished-more, unfinished-last, WordIs, word-of-nine, word-of-all}
 use Rattle.receiver_reading.proofs.Words.{longer-code, unsupported-code}
-use Rattle.receiver_reading.proofs.Histories.{bits-append, bits-front, six, begins, begun-seven}
+use Rattle.receiver_reading.proofs.Histories.{bits-append, bits-front, begins, begun-seven}
 use Rattle.receiver_reading.proofs.Answers.{answer, state, state-after, taken-bits, state-taken, Told, Stood, goes, told-stands, stood-by}
 use Rattle.receiver_reading.proofs.Answers.{hunt-told, start-told, first-told}
 use Rattle.receiver_reading.proofs.States.{reading-stood, reading-told, await-stood, await-told, lapse-told, given-stood, where-at}
@@ -52,7 +52,7 @@ half-stood hs g s n w x low u l =
     let next : 5 + 2 * n + 1 ≡ 6 + 2 * n = omega arith in
     stood-by g (6 + 2 * n) w (append-assoc hs (pairs n w) (x ∷ []))
     (told-stands (ks ++ x ∷ []) (goes g (5 + 2 * n + 1) w) (first-told ks g n w (reading-stood hs g s n w low u) x l)
-    ∙ ap (λ (a : ℕ). standing g (six (ks ++ x ∷ [])) a w) next)
+    ∙ ap (λ (a : ℕ). standing g (pastOf (ks ++ x ∷ [])) a w) next)
 
 pub stands-state : {hs : List ℕ} {r : Receiver} → StandsAfter hs r → Bits hs → state hs ≡ r
 stands-state (idles at) b = where-at at b
@@ -87,15 +87,16 @@ module _ (hs : List ℕ) (bits : Bits hs) (at : At idle hs) where
   hunting-stood = where-at at bits
 
   idle-step : (h : ℕ) → h ≤ 1 → Step (hs ++ h ∷ [])
-  idle-step zero l = go (ℕ-discrete (six hs) 7)
+  idle-step zero l = go (ℕ-discrete (pastOf hs) 7)
     where
-      go : Dec (six hs ≡ 7) → Step (hs ++ 0 ∷ [])
+      go : Dec (pastOf hs ≡ 7) → Step (hs ++ 0 ∷ [])
       go (yes e) =
           quietly No 5 0 (start-told hs hunting-stood e)
           (stands-by (pairs-none (hs ++ 0 ∷ []) 0) (stands (reads 0 0 (hunted 0 at (begins hs bits e)) (omega arith) (inl (omega arith)))))
-      go (no n) = quietly No 0 0 (hunt-told hs hunting-stood 0 l (no-start-past (six hs) 0 n)) (stands (idles (hunts 0 at l (λ b. n (begun-seven hs 0 b .0)))))
+      go (no n) =
+          quietly No 0 0 (hunt-told hs hunting-stood 0 l (no-start-past (pastOf hs) 0 n)) (stands (idles (hunts 0 at l (λ b. n (begun-seven hs 0 b .0)))))
   idle-step (suc zero) l =
-      quietly No 0 0 (hunt-told hs hunting-stood 1 l (no-start-one (six hs))) (stands (idles (hunts 1 at l (λ b. omega (arith, begun-seven hs 1 b .1)))))
+      quietly No 0 0 (hunt-told hs hunting-stood 1 l (no-start-one (pastOf hs))) (stands (idles (hunts 1 at l (λ b. omega (arith, begun-seven hs 1 b .1)))))
   idle-step (suc (suc h)) l = absurd (omega arith)
 
 -- ---- the awaited start

@@ -39,7 +39,8 @@ use Rattle.receiver_laws.proofs.FrameBits.{framed}
 use Rattle.receiver_reading.specs.Reading.{EndsIn, startMark, Begins, pairs, Unfinished, NoSuchCode, Final, Mark, idle, begun, said}
 use Rattle.receiver_reading.specs.Reading.{At, fresh, hunts, lapses, follows, hunted, awaited, message, repeated, equal, unsupported}
 use Rattle.receiver_reading.proofs.Words.{pairs-none, pairs-last, low-less, low-word, unfinished-less, before-last, code-longer, code-unsupported}
-use Rattle.receiver_reading.proofs.Histories.{bits-front, six, ends-append, ends-drop, begins, begun-seven}
+use Rattle.receiver_reading.specs.Standing.{pastOf}
+use Rattle.receiver_reading.proofs.Histories.{bits-front, ends-append, ends-drop, begins, begun-seven}
 use Rattle.receiver_reading.proofs.Answers.{Told, Stood, goes, breaks, told-stands, told-by, stood-by, step-told, valid, fresh-stood, brings}
 use Rattle.receiver_reading.proofs.Answers.{hunt-told, start-told, equal-told, pair-told}
 
@@ -65,7 +66,7 @@ module _ (hs : List ℕ) (g : Given) (s : Stood hs g 5 0) where
   module _ (n w : ℕ) (i : Stood (hs ++ pairs n (w / 2)) g (5 + 2 * n) (w / 2)) (u : Unfinished n (w / 2)) (low : w < 2 ^ suc n) where
     -- the six before the last half-cycle
     before : ℕ
-    before = six ((hs ++ pairs n (w / 2)) ++ w % 2 ∷ [])
+    before = pastOf ((hs ++ pairs n (w / 2)) ++ w % 2 ∷ [])
 
     last-pair : Told (hs ++ pairs (suc n) w) (λ p. pairOf (standing g before (5 + 2 * n + 1) (w / 2)) w p)
     unfolding before
@@ -75,15 +76,15 @@ module _ (hs : List ℕ) (g : Given) (s : Stood hs g 5 0) where
         let j : ks ++ w % 2 ∷ (1 - w % 2) ∷ [] ≡ hs ++ pairs (suc n) w =
         append-assoc hs (pairs n (w / 2)) (w % 2 ∷ (1 - w % 2) ∷ []) ∙ ap (λ (l : List ℕ). hs ++ l) (sym (pairs-last n w)) in
         told-by (brings ks g n (w / 2) (w % 2)) j (pair-told ks g n (w / 2) i (w % 2) (omega arith) (low-word n (w / 2) u (low-less n w low)))
-        ∙ ap (λ (b : ℕ). pairOf (standing g before (5 + 2 * n + 1) (w / 2)) b (six (hs ++ pairs (suc n) w))) e
+        ∙ ap (λ (b : ℕ). pairOf (standing g before (5 + 2 * n + 1) (w / 2)) b (pastOf (hs ++ pairs (suc n) w))) e
 
     next-told : Unfinished (suc n) w → Told (hs ++ pairs (suc n) w) (goes g (5 + 2 * suc n) w)
-    next-told more = last-pair ∙ pair-follows g before (w / 2) n w (six (hs ++ pairs (suc n) w)) more
+    next-told more = last-pair ∙ pair-follows g before (w / 2) n w (pastOf (hs ++ pairs (suc n) w)) more
 
   pub reading-stood : (n w : ℕ) → w < 2 ^ n → Unfinished n w → Stood (hs ++ pairs n w) g (5 + 2 * n) w
   reading-stood zero w low u =
       let none : 0 ≡ w = omega arith in
-      stood-by g 5 w (sym (pairs-none hs w)) (s ∙ ap (λ (x : ℕ). standing g (six hs) 5 x) none)
+      stood-by g 5 w (sym (pairs-none hs w)) (s ∙ ap (λ (x : ℕ). standing g (pastOf hs) 5 x) none)
   reading-stood (suc n) w low u =
       let v = unfinished-less n w u in
       told-stands (hs ++ pairs (suc n) w) (goes g (5 + 2 * suc n) w) (next-told n w (reading-stood n (w / 2) (low-less n w low) v) v low u)
@@ -96,7 +97,7 @@ module _ (hs : List ℕ) (g : Given) (s : Stood hs g 5 0) where
     reading-told more = next-told n w so-far u low more
 
     ends-told : (f : ℕ → Heard) → ((q p : ℕ) → pairOf (standing g q (5 + 2 * n + 1) (w / 2)) w p ≡ f p) → Told (hs ++ pairs (suc n) w) f
-    ends-told f e = last-pair n w so-far u low ∙ e (before n w so-far u low) (six (hs ++ pairs (suc n) w))
+    ends-told f e = last-pair n w so-far u low ∙ e (before n w so-far u low) (pastOf (hs ++ pairs (suc n) w))
 
   broken-told : (n w x : ℕ) → w < 2 ^ n → Unfinished n w → x ≤ 1 → Told (hs ++ (pairs n w ++ x ∷ x ∷ [])) (breaks BrokenPair)
   broken-told n w x low u l =
@@ -133,10 +134,10 @@ unfolding frameOf
 message-ends (message {hs} m a ok n) = ends-append startMark (pairs (bitCount m) (wordOf m)) hs (begun-ends a)
 
 -- so the last six are those after a frame
-clean : {m : Message} {hs : List ℕ} → At (said (Gives m)) hs → Clean (six hs)
+clean : {m : Message} {hs : List ℕ} → At (said (Gives m)) hs → Clean (pastOf hs)
 clean {m} {hs} a =
     let e = message-ends a in
-    subst (λ (p : ℕ). Clean p) (sym (six-append 63 (e .0) (frameOf m)) ∙ ap six (e .1)) (clean-frame m (six (e .0)))
+    subst (λ (p : ℕ). Clean p) (sym (six-append 63 (e .0) (frameOf m)) ∙ ap pastOf (e .1)) (clean-frame m (pastOf (e .0)))
 
 -- ---- the awaited start
 
@@ -176,13 +177,13 @@ module _ (m : Message) (hs : List ℕ) (a : At (said (Gives m)) hs) (s : Stood h
       let j : so k ++ h ∷ [] ≡ so (suc k) = append-assoc hs (take k startMark) (h ∷ []) ∙ ap (λ (x : List ℕ). hs ++ x) (sym more) in
       told-by (goes (Yes m) (suc k + 1) 0) j
       (step-told (so k) (Yes m) (suc k) 0 i h (goes (Yes m) (suc k + 1) 0)
-      (step-wanted (Yes m) (six (so k)) (suc k) 0 h (valid (so k) (Yes m) (suc k) 0 i) (w .1) (omega arith) (omega arith) (w .0)))
+      (step-wanted (Yes m) (pastOf (so k)) (suc k) 0 h (valid (so k) (Yes m) (suc k) 0 i) (w .1) (omega arith) (omega arith) (w .0)))
 
   pub await-stood : (k : ℕ) → k ≤ 4 → Stood (so k) (Yes m) (suc k) 0
   await-stood zero l = stood-by (Yes m) 1 0 (sym (append-nil hs)) s
   await-stood (suc k) l =
       told-stands (so (suc k)) (goes (Yes m) (suc k + 1) 0) (next-start k (omega arith) (await-stood k (omega arith)))
-      ∙ ap (λ (x : ℕ). standing (Yes m) (six (so (suc k))) x 0) (omega arith)
+      ∙ ap (λ (x : ℕ). standing (Yes m) (pastOf (so (suc k))) x 0) (omega arith)
 
   pub await-told : (k : ℕ) → k ≤ 3 → Told (so (suc k)) (goes (Yes m) (suc k + 1) 0)
   await-told k l = next-start k l (await-stood k (omega arith))
@@ -191,10 +192,10 @@ module _ (m : Message) (hs : List ℕ) (a : At (said (Gives m)) hs) (s : Stood h
   lapse-told k h l b d =
       let i = await-stood k (omega arith) in
       let unwanted : h ≢ pick (leb (suc k) 3) 1 0 = λ e. d (e ∙ sym (start-half k l .0)) in
-      let none : NoStart (six (so k)) h = rw (six-append 63 hs (take k startMark)) (no-start k (six hs) h l b d (clean a)) in
+      let none : NoStart (pastOf (so k)) h = rw (six-append 63 hs (take k startMark)) (no-start k (pastOf hs) h l b d (clean a)) in
       told-by (goes No 0 0) (append-assoc hs (take k startMark) (h ∷ []))
       (step-told (so k) (Yes m) (suc k) 0 i h (goes No 0 0)
-      (step-unwanted (Yes m) (six (so k)) (suc k) 0 h (valid (so k) (Yes m) (suc k) 0 i) b (omega arith) (omega arith) unwanted none))
+      (step-unwanted (Yes m) (pastOf (so k)) (suc k) 0 h (valid (so k) (Yes m) (suc k) 0 i) b (omega arith) (omega arith) unwanted none))
 
 -- ---- each mark
 
@@ -220,9 +221,9 @@ final BrokenPair f = refl
 final BrokenUnsupported f = refl
 final (Refused why) f = refl
 
-no-frame : (hs : List ℕ) (h : ℕ) → Bits hs → h ≤ 1 → (Begins (hs ++ h ∷ []) → ⊥) → NoStart (six hs) h
-no-frame hs zero b l n = no-start-past (six hs) 0 (λ e. n (begins hs b e))
-no-frame hs (suc zero) b l n = no-start-one (six hs)
+no-frame : (hs : List ℕ) (h : ℕ) → Bits hs → h ≤ 1 → (Begins (hs ++ h ∷ []) → ⊥) → NoStart (pastOf hs) h
+no-frame hs zero b l n = no-start-past (pastOf hs) 0 (λ e. n (begins hs b e))
+no-frame hs (suc zero) b l n = no-start-one (pastOf hs)
 no-frame hs (suc (suc h)) b l n = absurd (omega arith)
 
 new-message : (g : Given) (m : Message) (p : ℕ) → g ≢ Yes m → completeOf g m p ≡ says (Gives m) (standing (Yes m) p 1 0)
@@ -247,16 +248,16 @@ where-at (lapses {hs} {m} k h a l c d) b =
     let ks = take k startMark ++ h ∷ [] in
     told-stands (hs ++ ks) (goes No 0 0) (lapse-told m hs a (given-stood m hs (where-at a (bits-front hs ks b))) k h l c d)
 where-at (follows {hs} {e} f a) b =
-    told-stands hs (λ p. says e (awaiting (givenBy e) p)) (where-at a b) ∙ ap (λ (g : Given). awaiting g (six hs)) (final e f)
+    told-stands hs (λ p. says e (awaiting (givenBy e) p)) (where-at a b) ∙ ap (λ (g : Given). awaiting g (pastOf hs)) (final e f)
 where-at (hunted {hs} h a s) b =
     let z = begun-seven hs h s in
     rw (z .1) (told-stands (hs ++ 0 ∷ []) (goes No 5 0) (start-told hs (where-at a (bits-front hs (h ∷ []) b)) (z .0)))
 where-at (awaited {hs} {m} a) b = await-stood m hs a (given-stood m hs (where-at a (bits-front hs startMark b))) 4 (omega arith)
 where-at (message {hs} {g} m a ok n) b =
     let ps = pairs (bitCount m) (wordOf m) in
-    complete-told hs g (where-at a (bits-front hs ps b)) m ok ∙ new-message g m (six (hs ++ ps)) n
+    complete-told hs g (where-at a (bits-front hs ps b)) m ok ∙ new-message g m (pastOf (hs ++ ps)) n
 where-at (repeated {hs} {m} a) b =
     let ps = pairs (bitCount m) (wordOf m) in
-    complete-told hs (Yes m) (where-at a (bits-front hs ps b)) m (valid-given a) ∙ same-message m (six (hs ++ ps))
+    complete-told hs (Yes m) (where-at a (bits-front hs ps b)) m (valid-given a) ∙ same-message m (pastOf (hs ++ ps))
 where-at (equal {hs} {g} n w x a low u l) b = broken-told hs g (where-at a (bits-front hs (pairs n w ++ x ∷ x ∷ []) b)) n w x low u l
 where-at (unsupported {hs} {g} w a c) b = unsupported-told hs g (where-at a (bits-front hs (pairs 9 w) b)) w c

@@ -8,18 +8,13 @@ use lib.ListN.{take}
 use Rattle.message.specs.Messages.{messageOk}
 use Rattle.message.specs.declared.Message.{Message}
 use Rattle.burst.specs.Frames.{frameOf}
-use Rattle.receiver.specs.Receivers.{freshReceiver, hunting}
+use Rattle.receiver.specs.Receivers.{freshReceiver, givenOk, hunting}
 use Rattle.receiver.specs.Hearing.{receiverAfter}
 use Rattle.receiver.specs.declared.Given.{Given}
 use Rattle.receiver.specs.declared.Given.the-variants.{No, Yes}
 use Rattle.receiver.specs.declared.Receiver.{Receiver}
 use Rattle.receiver_reading.specs.Reading.{startMark, huntedStart, pairs, Unfinished}
 use Rattle.receiver_reading.specs.Standing.{pastOf}
-
--- the message just given, if any, is one that there is
-abbrev pub Sound : Given → Type 0
-Sound No = Unit {0}
-Sound (Yes m) = messageOk m ≡ true
 
 -- what came when a frame began
 abbrev pub beginning : Given → List ℕ
@@ -33,10 +28,10 @@ pub data Reachable : Receiver → Type 0 where
   awaits : (m : Message) (k : ℕ) → messageOk m ≡ true → k ≤ 3
       → Reachable (record { past = pastOf (frameOf m ++ take k startMark); at = suc k; bits = 0; given = Yes m })
   -- the n bits of w were read in pairs, and more follow
-  reads : (g : Given) (n w : ℕ) → Sound g → w < 2 ^ n → Unfinished n w
+  reads : (g : Given) (n w : ℕ) → givenOk g ≡ true → w < 2 ^ n → Unfinished n w
       → Reachable (record { past = pastOf (beginning g ++ pairs n w); at = 5 + 2 * n; bits = w; given = g })
   -- and a pair's first half-cycle
-  halfway : (g : Given) (n w x : ℕ) → Sound g → w < 2 ^ n → Unfinished n w → x ≤ 1
+  halfway : (g : Given) (n w x : ℕ) → givenOk g ≡ true → w < 2 ^ n → Unfinished n w → x ≤ 1
       → Reachable (record { past = pastOf (beginning g ++ (pairs n w ++ x ∷ [])); at = 6 + 2 * n; bits = w; given = g })
 
 -- these and no others

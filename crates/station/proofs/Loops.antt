@@ -1,6 +1,6 @@
 -- The bench's loops: what holds after i stations, and how one more keeps it.
 --
---     draws-more                                        one draw more is judged
+--     draws-more, getD-same                             one draw more is judged; a list of one thing
 --     Looked: looked-none, looked-more, looked-idle     the look: the stations' states, the line, and what each sent
 --             looked-bad, looked-fine, looked-line
 --     Moving: moving-none, moving-more, moving-on       the move: the stations after the line's half-cycle, and the DONE marks
@@ -30,7 +30,7 @@ draws-more n draws i enough h = rw (slice-cons i n draws 0 h enough)
 -- ---- the look
 
 -- of a list of one thing each element is it
-getD-same : {A : Type 0} (n k : ℕ) (a : A) → getD (replicate n a) k a ≡ a
+pub getD-same : {A : Type 0} (n k : ℕ) (a : A) → getD (replicate n a) k a ≡ a
 getD-same zero k a = refl
 getD-same (suc n) zero a = refl
 getD-same (suc n) (suc k) a = getD-same n k a

@@ -1,16 +1,17 @@
 -- How a station's state is judged in one look: it is idle, or it is about to send.
 --
+--     Fine, fine-station         what a station with a message has in one of the states
 --     idle-empty, idle-holds     which stations are idle
 --     empty-busy, holds-busy     which of the others are in one of the states
 --     idle-told                  an idle station is in one of the states, and sends 0
 --     sends-half, last-two       what one sends whose count is at its wait; what its tests say
-use mathlib.Core.Path.{_≡_, refl, sym, ap, _∙_}
-use mathlib.Core.Bool.{Bool, true, false, _&&_, and-true, and-false, or-true, and-comm, and-assoc, and-eq-true-iff}
-use Prim.Native.Nat.{ℕ, zero, suc, _<_}
+use mathlib.Core.Path.{_≡_, refl, sym, ap, subst, _∙_}
+use mathlib.Core.Bool.{Bool, true, false, _&&_, _||_, and-true, and-false, or-true, and-comm, and-assoc, and-eq-true-iff}
+use Prim.Native.Nat.{ℕ, zero, suc, _≤_, _<_}
 use native.Mathlib.Omega.{arith}
 use native.Mathlib.Decide.{decLt}
-use borrow.Author.Tests.{eq-eqb, ne-eqb, lt-ltb, le-ltb, le-leb, lt-leb, ltb-true}
-use lib.Dec.{eqb, ltb, eqb·suc-zero}
+use borrow.Author.Tests.{eq-eqb, ne-eqb, lt-ltb, le-ltb, le-leb, lt-leb, leb-true, ltb-true}
+use lib.Dec.{eqb, leb, ltb, eqb·suc-zero}
 use lib.ListN.{getD}
 use Rattle.ground.specs.Choice.{pick}
 use Rattle.message.specs.Messages.{messageOk}
@@ -21,6 +22,30 @@ use Rattle.station.specs.declared.Held.{Held}
 use Rattle.station.specs.declared.Held.the-variants.{Empty, Holds}
 use Rattle.station.specs.declared.Station.{Station}
 use Rattle.burst.proofs.Writing.{frame-of-bits}
+
+-- ---- a station with a message, in one of the states
+
+pub record Fine (m : Message) (s : Station) : Type 0 where
+  pub valid : messageOk m ≡ true
+  pub drawn-wait : drawOk (s .wait) ≡ true
+  pub counts : s .count ≤ s .wait
+  pub within : s .place < burstLength m
+  pub early : (eqb (s .place) 0 || leb (s .wait) (s .count)) ≡ true
+
+pub fine-station : (m : Message) (s : Station) → s .held ≡ Holds m → stationOk s ≡ true → Fine m s
+unfolding stationOk
+fine-station m s e ok =
+    let all = and-eq-true-iff (drawOk (s .wait)) _ .0 (subst (λ (x : Held). heldOk x (s .wait) (s .count) (s .place) ≡ true) e ok) in
+    let counting = and-eq-true-iff (leb (s .count) (s .wait)) _ .0 (all .1) in
+    let placing = and-eq-true-iff (ltb (s .place) (burstLength m)) _ .0 (counting .1) in
+    let rest = and-eq-true-iff (eqb (s .place) 0 || leb (s .wait) (s .count)) (messageOk m) .0 (placing .1) in
+    record {
+      valid = rest .1;
+      drawn-wait = all .0;
+      counts = leb-true (s .count) (s .wait) (counting .0);
+      within = ltb-true (s .place) (burstLength m) (placing .0);
+      early = rest .0;
+    }
 
 -- ---- idle
 

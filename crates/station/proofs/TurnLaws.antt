@@ -5,14 +5,14 @@
 --     turn-aborts, turn-counts, turn-goes, turn-ends     what one half-cycle makes of one with a message, by the tests of `moves`
 --     by-done, by-going                          the turn that a move's numbers stand for
 --     send-promise, load-promise, turn-promise   what each answer reports, by its causes
-use mathlib.Core.Path.{_≡_, refl, sym, ap, subst, _∙_}
-use mathlib.Core.Bool.{Bool, true, false, _||_, or-false, and-eq-true-iff}
+use mathlib.Core.Path.{_≡_, refl, sym, ap, _∙_}
+use mathlib.Core.Bool.{Bool, true, false, or-false}
 use mathlib.Core.List.{[], _∷_}
 use Prim.Native.Nat.{ℕ, _+_, _≤_, _<_}
 use native.Mathlib.Omega.{arith}
 use native.Mathlib.Decide.{decLt}
-use borrow.Author.Tests.{leb-true, ltb-true, eqb-true, eq-eqb, ne-eqb, le-leb, lt-leb}
-use lib.Dec.{eqb, leb, ltb}
+use borrow.Author.Tests.{eqb-true, eq-eqb, ne-eqb, le-leb, lt-leb}
+use lib.Dec.{eqb}
 use lib.ListN.{getD}
 use Rattle.ground.specs.Choice.{pick}
 use Rattle.ground.specs.Refusals.{Report, reports, refuses, judged}
@@ -20,10 +20,9 @@ use Rattle.ground.specs.declared.Refusal.{Refusal}
 use Rattle.ground.specs.declared.Refusal.the-variants as refusal
 use Rattle.ground.proofs.Choices.{pick-both}
 use Rattle.ground.proofs.Causes.{judged-map}
-use Rattle.message.specs.Messages.{messageOk}
 use Rattle.message.specs.declared.Message.{Message}
 use Rattle.burst.specs.Frames.{burstOf, burstLength}
-use Rattle.station.specs.Stations.{emptyStation, loaded, drawOk, heldOk, stationOk, loadOf, loadCauses, loadReport, heldSends, sendsOf, sendOf}
+use Rattle.station.specs.Stations.{emptyStation, loaded, drawOk, stationOk, loadOf, loadCauses, loadReport, heldSends, sendsOf, sendOf}
 use Rattle.station.specs.Stations.{sendCauses, sendReport, heldMoves, turnCauses, turnOf, isDone, turnReport, turnBy}
 use Rattle.station.specs.declared.Held.{Held}
 use Rattle.station.specs.declared.Held.the-variants.{Empty, Holds}
@@ -35,6 +34,7 @@ use Rattle.station.specs.declared.Station.{Station}
 use Rattle.station.specs.declared.Turn.{Turn}
 use Rattle.station.specs.declared.TurnAnswer.the-variants as turn
 use Rattle.station.proofs.SendLaws.{no-fault}
+use Rattle.station.proofs.StateLaws.{Fine, fine-station}
 
 -- ---- what `sends` tells
 
@@ -81,9 +81,8 @@ module _ {s : Station} {sent heard draw : ℕ} (r : Movable s sent heard draw) w
     turn-holds : turnOf s heard draw ≡ heldMoves (Holds m) s heard draw
     turn-holds = turn-moves ∙ ap (λ (h : Held). heldMoves h s heard draw) e
 
-    held-ok : heldOk (Holds m) (s .wait) (s .count) (s .place) ≡ true
-    unfolding stationOk
-    held-ok = subst (λ (h : Held). heldOk h (s .wait) (s .count) (s .place) ≡ true) e (r .ok)
+    found : Fine m s
+    found = fine-station m s e (r .ok)
 
     held-sends : heldSends (Holds m) (s .wait) (s .count) (s .place) ≡ sent
     unfolding sendsOf
@@ -96,25 +95,11 @@ module _ {s : Station} {sent heard draw : ℕ} (r : Movable s sent heard draw) w
 
     -- one that no longer waits has its count at its wait, and sends its burst
     level : s .wait ≤ s .count → eqb (s .count) (s .wait) ≡ true
-    level l =
-        let rest = and-eq-true-iff (drawOk (s .wait)) _ .0 held-ok .1 in
-        let counts : s .count ≤ s .wait = leb-true (s .count) (s .wait) (and-eq-true-iff (leb (s .count) (s .wait)) _ .0 rest .0) in
-        eq-eqb (s .count) (s .wait) (omega arith)
-
-    within : s .place < burstLength m
-    within =
-        let rest = and-eq-true-iff (drawOk (s .wait)) _ .0 held-ok .1 in
-        let tail = and-eq-true-iff (leb (s .count) (s .wait)) _ .0 rest .1 in
-        ltb-true (s .place) (burstLength m) (and-eq-true-iff (ltb (s .place) (burstLength m)) _ .0 tail .0)
+    level l = eq-eqb (s .count) (s .wait) (omega (arith, found .counts))
 
     -- one that waits has sent nothing
     unsent : s .count < s .wait → s .place ≡ 0
-    unsent l =
-        let rest = and-eq-true-iff (drawOk (s .wait)) _ .0 held-ok .1 in
-        let tail = and-eq-true-iff (leb (s .count) (s .wait)) _ .0 rest .1 in
-        let none = and-eq-true-iff (ltb (s .place) (burstLength m)) _ .0 tail .1 in
-        let early = and-eq-true-iff (eqb (s .place) 0 || leb (s .wait) (s .count)) (messageOk m) .0 none .0 in
-        eqb-true (s .place) 0 (sym (or-false (eqb (s .place) 0)) ∙ (rw (lt-leb (s .wait) (s .count) l) at early))
+    unsent l = eqb-true (s .place) 0 (sym (or-false (eqb (s .place) 0)) ∙ (rw (lt-leb (s .wait) (s .count) l) at (found .early)))
 
     sends-burst : s .wait ≤ s .count → getD (burstOf m) (s .place) 0 ≡ sent
     sends-burst l = sym (ap (λ (b : Bool). pick b (getD (burstOf m) (s .place) 0) 0) (level l)) ∙ held-sends
@@ -147,7 +132,7 @@ module _ {s : Station} {sent heard draw : ℕ} (r : Movable s sent heard draw) w
 
       pub turn-ends : s .wait ≤ s .count → burstLength m ≤ s .place + 1 → turnOf s heard draw ≡ record { answer = turn.Done; next = emptyStation }
       turn-ends l k =
-          let last : s .place + 1 ≡ burstLength m = omega (arith, within) in
+          let last : s .place + 1 ≡ burstLength m = omega (arith, found .within) in
           turn-holds
           ∙ rw (level l, eq-eqb (getD (burstOf m) (s .place) 0) heard (sends-burst l ∙ same), eq-eqb (s .place + 1) (burstLength m) last)
 

@@ -9,12 +9,12 @@ use lib.Seq.{sets}
 use borrow.Author.Needs.{needs}
 use Rattle.station.specs.declared.Station.{Station}
 use Rattle.station.specs.declared.Loading.{Loading}
-use Rattle.station.specs.declared.LoadAnswer.the-variants.{Loaded, Refused}
+use Rattle.station.specs.declared.LoadAnswer.the-variants.{Loaded}
 use Rattle.station.specs.Benches.{mostStations}
 use Rattle.wire.specs.Messages.{messageIn}
 use Rattle.wire.specs.declared.MessageRead.{MessageRead}
 use Rattle.bench_run.specs.BenchRuns.{loadingBy, loadings, loadsAnswer, stationsFrom}
-use Rattle.bench_run.proofs.LoadLaws.{loadingAt, load-answers, load-put, slots-placed}
+use Rattle.bench_run.proofs.LoadLaws.{load-answers, load-put, slots-placed}
 use Rattle.bench_run.proofs.load_all.Statement.{statement}
 use Rattle.bench_run.proofs.load_all.Tie as tie
 

@@ -1,6 +1,6 @@
 -- `run` meets its contract: the tests are those of `runCauses`, in its order, the last of them in `run_loaded`. Messages were judged before loading, so that
 -- loading is refused by a draw alone.
-use mathlib.Core.Path.{_≡_, sym, ap, _∙_}
+use mathlib.Core.Path.{sym, ap, _∙_}
 use native.Mathlib.Omega.{arith}
 use borrow.Author.Tests.{le-leb, eq-eqb}
 use lib.ListN.{length}

@@ -1,9 +1,7 @@
 -- `run_loaded` meets its contract: the tests are those of `callCauses`, in its order; the quotient and the remainder stand for a product that could wrap.
-use mathlib.Core.Path.{_≡_}
 use Prim.Native.Nat.{_*_}
 use native.Mathlib.Omega.{arith}
 use borrow.Author.Tests.{eq-eqb, ne-eqb, le-leb, lt-leb}
-use lib.Dec.{eqb}
 use lib.ListN.{length}
 use Rattle.bench_run.proofs.RunLaws.{draws-match, draws-differ}
 use Rattle.ground.proofs.Causes.{ladder}
