@@ -28,33 +28,64 @@
 extern "C" {
 #endif
 
-/* Numbers of refusals, and of the two BROKEN events. 8 and 15 are answers of single stations, which
- * are not exported. */
-enum x10_number {
+/* The version of this header and of the library: major * 10,000 + minor * 100 + patch. While the
+ * major number is 0, a minor version may change what is exported. */
+#define X10_VERSION 1000
+#define X10_VERSION_TEXT "0.10.0"
+
+/* Numbers given back: 0, those of refusals, and of the two BROKEN events. */
+enum x10_result {
     X10_OK = 0,
     X10_TABLE = 1,         /* the table's length is not 2,064 */
     X10_MESSAGE = 2,       /* a house or unit above 15, a kind or function code that makes no message */
     X10_RECORD = 3,        /* the table breaks a rule */
     X10_NOT_CARRIED = 4,   /* a message that tables do not carry */
     X10_HALF = 5,          /* a half-cycle that is not 0 or 1 */
-    X10_STATE = 6,         /* no receiver, or one in no state that there is; no bench of 1 to 16 stations */
+    X10_STATE = 6,         /* no receiver or station, or an impossible one; no bench of 1 to 16 */
     X10_DRAW = 7,          /* a draw that is not 8, 9 or 10, or not a draw for each */
+    X10_BUSY = 8,          /* the station to be loaded holds a message */
     X10_SHORT = 9,         /* a lent buffer has not the length that is asked for */
     X10_PAIR = 10,         /* an event: both half-cycles of a pair were equal */
     X10_UNSUPPORTED = 11,  /* an event: code 10, 11 or 12 with function bit 1 */
     X10_RF_LENGTH = 12,    /* a radio code has not four bytes */
     X10_RF_COMPLEMENT = 13,/* a pair of radio bytes is not complementary */
-    X10_RF_CODE = 14       /* none of the 544 radio codes */
+    X10_RF_CODE = 14,      /* none of the 544 radio codes */
+    X10_FAULT = 15         /* a station sent 1 and heard 0 */
 };
 
 static inline uint8_t x10_number(uint64_t answer) { return (uint8_t)answer; }
 static inline uint64_t x10_count(uint64_t answer) { return answer >> 8; }
 static inline uint16_t x10_modules(uint64_t answer) { return (uint16_t)(answer >> 8); }
 
+/* What a number given back says, in words; "" for a number that is none. */
+static inline const char *x10_text(uint8_t number)
+{
+    switch (number) {
+    case X10_OK: return "done";
+    case X10_TABLE: return "TABLE: the table's length is not 2,064";
+    case X10_MESSAGE: return "MESSAGE: house or unit above 15, or no message";
+    case X10_RECORD: return "RECORD: the table breaks a rule";
+    case X10_NOT_CARRIED: return "NOT CARRIED: tables do not carry this message";
+    case X10_HALF: return "HALF: a half-cycle that is not 0 or 1";
+    case X10_STATE: return "STATE: no receiver, station or bench, or an impossible one";
+    case X10_DRAW: return "DRAW: a draw that is not 8 to 10, or not one for each";
+    case X10_BUSY: return "BUSY: the station holds a message";
+    case X10_SHORT: return "SHORT: a buffer is too short";
+    case X10_PAIR: return "PAIR: both half-cycles of a pair are equal";
+    case X10_UNSUPPORTED: return "UNSUPPORTED: code 10, 11 or 12";
+    case X10_RF_LENGTH: return "RF LENGTH: a radio code has four bytes";
+    case X10_RF_COMPLEMENT: return "RF COMPLEMENT: a pair of radio bytes is not complementary";
+    case X10_RF_CODE: return "RF CODE: none of the 544 radio codes";
+    case X10_FAULT: return "FAULT: sent 1, heard 0";
+    default: return "";
+    }
+}
+
 /* A message is five numbers: its kind; its house, 0 to 15; a third number, which is the unit, 0 to 15,
  * of an address or an extended message, and the four-bit code of a function; data and command, which
  * are looked at in an extended message only. In lent memory it is these five bytes; what a routine
- * writes there has 0 for the data and command that a message does not have. */
+ * writes there has 0 for the data and command that a message does not have. A message that a receiver
+ * or a station keeps must be as a routine writes it: another is refused 6. */
 enum x10_kind { X10_ADDRESS = 1, X10_FUNCTION = 2, X10_EXTENDED = 3 };
 
 enum x10_function {
@@ -72,9 +103,30 @@ enum x10_function {
     X10_STATUS_REQUEST = 15
 };
 
+/* The name of a function by its code; "" for a code that is none of the twelve. */
+static inline const char *x10_function_name(uint8_t code)
+{
+    switch (code) {
+    case X10_ALL_UNITS_OFF: return "ALL UNITS OFF";
+    case X10_ALL_LIGHTS_ON: return "ALL LIGHTS ON";
+    case X10_ON: return "ON";
+    case X10_OFF: return "OFF";
+    case X10_DIM: return "DIM";
+    case X10_BRIGHT: return "BRIGHT";
+    case X10_ALL_LIGHTS_OFF: return "ALL LIGHTS OFF";
+    case X10_HAIL_REQUEST: return "HAIL REQUEST";
+    case X10_HAIL_ACKNOWLEDGE: return "HAIL ACKNOWLEDGE";
+    case X10_STATUS_ON: return "STATUS ON";
+    case X10_STATUS_OFF: return "STATUS OFF";
+    case X10_STATUS_REQUEST: return "STATUS REQUEST";
+    default: return "";
+    }
+}
+
 #define X10_MESSAGE_BYTES 5
 #define X10_LONGEST_BURST 124
 #define X10_RECEIVER_BYTES 11
+#define X10_STATION_BYTES 8
 #define X10_EVENT_BYTES 6
 #define X10_ANSWER_BYTES 8
 #define X10_TABLE_BYTES 2064
@@ -99,9 +151,9 @@ enum x10_event { X10_NOTHING = 0, X10_GIVEN = 1, X10_REPEAT = 2 };
 
 /* Hands the receiver n half-cycles, one after the other. Event i is the six bytes at events + 6 * i:
  * what happened, and the message given, five zeros where there is none. Bytes beyond 6 * n stay.
- * Count: n. Refusals: 6, where state_len is not 11, or the bytes are no receiver or one in no state
- * that there is (docs/receiver.md); 9, where events_len is below 6 * n. A half-cycle that is not 0 or
- * 1 is no refusal of the call: its event is 5, the receiver stays, and the next half-cycle follows. */
+ * Count: n. Refusals: 6, where state_len is not 11, or the bytes are no receiver or an impossible one
+ * (docs/receiver.md); 9, where events_len is below 6 * n. A half-cycle that is not 0 or 1 is no refusal
+ * of the call: its event is 5, the receiver stays, and the next half-cycle follows. */
 uint64_t x10_receive(uint8_t *state, size_t state_len, const uint8_t *halves, size_t n,
                      uint8_t *events, size_t events_len);
 
@@ -116,11 +168,59 @@ uint64_t x10_radio_write(uint8_t command, uint8_t house, uint8_t unit, uint8_t *
  * of out; bytes beyond them stay. Count: 3. Refusals: 9, where out_len is below 3; 12, 13, 14. */
 uint64_t x10_radio_read(const uint8_t *code, size_t code_len, uint8_t *out, size_t out_len);
 
-/* Applies a message to a module table of 2,064 bytes: 256 records of 8 in order A1 to P16 (kind,
- * level, addressed, group mask, four presets), then one byte for each house. Count: records whose
- * level differs before and after. Refusals: 1, 2, 3, 4. */
+/* A module table is 2,064 bytes: 256 records of 8 in order A1 to P16, then one "command heard" byte for
+ * each house. docs/TABLE.md says which values they take; all zeros is a table with no module. */
+#define X10_RECORD_BYTES 8
+#define X10_HEARD_AT 2048
+
+/* A record's bytes: its kind; level 0 to 63; addressed 0 or 1; its groups, bit g for group g; four
+ * presets, group 0 first. */
+enum x10_record {
+    X10_KIND_AT = 0,
+    X10_LEVEL_AT = 1,
+    X10_ADDRESSED_AT = 2,
+    X10_GROUPS_AT = 3,
+    X10_PRESETS_AT = 4
+};
+
+enum x10_module { X10_NO_MODULE = 0, X10_LAMP = 1, X10_APPLIANCE = 2 };
+
+/* Where the record of a house and unit, both 0 to 15, begins. */
+static inline size_t x10_record_at(uint8_t house, uint8_t unit)
+{
+    return ((size_t)house * 16 + unit) * X10_RECORD_BYTES;
+}
+
+/* Applies a message to a module table. Count: records whose level differs before and after.
+ * Refusals: 1, 2, 3, 4. */
 uint64_t x10_apply(uint8_t *table, size_t len, uint8_t kind, uint8_t house, uint8_t third,
                    uint8_t data, uint8_t command);
+
+/* A station is 8 bytes: the message that it holds, five zeros where it is empty; the wait drawn, 8 to
+ * 10; its count of clear half-cycles in a row; how many half-cycles of its burst it has sent. Bytes
+ * that hold no station, or an impossible one, are refused 6. An empty station's last three bytes are
+ * 8, 0, 0. Of one that holds a message the count is at most the wait, and the place below 44, or below
+ * 124 for an extended message, and above 0 only where the count is the wait.
+ *
+ * A keypad makes its station empty once and loads it at a press. Then in each half-cycle it asks what
+ * the station sends, puts that on the mains, hears what the line has, and tells the station; a draw,
+ * 8, 9 or 10 by chance, comes with each call. The station waits for a clear line, gives way to others
+ * and sends again, until a half-cycle's count is 1: its burst is out, and it is empty again.
+ *
+ * Makes these bytes an empty station. Count 0. Refusal: 6, where len is not 8. */
+uint64_t x10_station_empty(uint8_t *station, size_t len);
+
+/* Loads a message. Count 0. Refusals: 2; 6; 7; 8, where the station holds a message. */
+uint64_t x10_station_load(uint8_t *station, size_t len, uint8_t kind, uint8_t house, uint8_t third,
+                          uint8_t data, uint8_t command, uint8_t draw);
+
+/* What the station sends in this half-cycle: the count, 0 or 1. Refusal: 6. */
+uint64_t x10_station_sends(const uint8_t *station, size_t len);
+
+/* One half-cycle of the station, with what the line had in it and a draw, which is judged also where
+ * it is not used. Count: 1 where the burst's last half-cycle was sent, else 0. Refusals: 5, 6, 7; 15,
+ * where it sent 1 and heard 0, which leaves it as it was. */
+uint64_t x10_station_half_cycle(uint8_t *station, size_t len, uint8_t heard, uint8_t draw);
 
 /* Runs a bench of n stations. Station i is loaded with the message at messages + 5 * i and the draw
  * loads[i]. Then the bench is called once for each byte of lines: call j takes the n draws at

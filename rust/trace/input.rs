@@ -1,5 +1,5 @@
-// Writes half-cycles to be timed on standard output: `input bursts COUNT`, bursts of all three kinds of message with three clear
-// half-cycles before each, or `input clear COUNT`, a clear line.
+// Writes half-cycles to be timed on standard output: `input bursts COUNT`, bursts of all three kinds of
+// message with three clear half-cycles before each, or `input clear COUNT`, a clear line.
 use std::io::Write;
 
 const CODES: [u32; 16] = [6, 14, 2, 10, 1, 9, 5, 13, 7, 15, 3, 11, 0, 8, 4, 12];
@@ -37,7 +37,11 @@ fn main() {
         let (word, bits) = match draws.below(3) {
             0 => ((house * 16 + CODES[draws.below(16) as usize]) * 2, 9),
             1 => ((house * 16 + FUNCTIONS[draws.below(12) as usize]) * 2 + 1, 9),
-            _ => ((((house * 16 + 7) * 2 + 1) * 16 + CODES[draws.below(16) as usize]) << 16 | draws.below(65536), 29),
+            _ => (
+                (((house * 16 + 7) * 2 + 1) * 16 + CODES[draws.below(16) as usize]) << 16
+                    | draws.below(65536),
+                29,
+            ),
         };
         out.extend_from_slice(b"000");
         frame(&mut out, word, bits);

@@ -1,10 +1,10 @@
 -- The exported run is demand 3's list of calls: its tests let through only what loads as `Start` says, and its turns are those of `run`.
 --
---     none-stops, Passed, passed           what it means that nothing is refused
+--     Passed, passed                       what it means that nothing is refused
 --     said-at, station-at, loaded-at       the message and the station at a place
 --     exported-run                         ExportedRun
 use mathlib.Core.Path.{_≡_, refl, sym, ap, _∙_}
-use mathlib.Core.Bool.{Bool, true, false, false≢true, and-eq-true-iff}
+use mathlib.Core.Bool.{true, false≢true, and-eq-true-iff}
 use mathlib.Core.List.{List, [], _∷_}
 use Prim.Native.Nat.{ℕ, zero, suc, _+_, _*_, _/_, _≤_, _<_}
 use native.Mathlib.Nat.{not-suc-le-zero, le-of-suc-le-suc}
@@ -12,9 +12,8 @@ use native.Mathlib.Omega.{arith}
 use borrow.Author.Tests.{leb-true, eqb-true}
 use lib.ListN.{length, getD, drop}
 use lib.Seq.{drop-drop}
-use Rattle.ground.specs.Refusals.{Cause, unless, judged, numberGiven}
-use Rattle.ground.specs.declared.Refusal.{Refusal}
-use Rattle.ground.proofs.Causes.{some-number, nothing-refused}
+use Rattle.ground.specs.Refusals.{numberGiven}
+use Rattle.ground.proofs.Causes.{none-stops, nothing-refused}
 use Rattle.message.specs.declared.Message.{Message}
 use Rattle.message.specs.declared.Message.the-variants.{Address}
 use Rattle.station.specs.Stations.{emptyStation}
@@ -32,11 +31,6 @@ use Rattle.bench_laws.specs.ExportedRun.{ExportedRun}
 use Rattle.bench_laws.proofs.WholeList.{demand-3}
 
 -- ---- nothing is refused
-
-none-stops : (test : Bool) (why : Refusal) (cs : List Cause) → numberGiven (unless test why ∷ cs) ≡ 0 → (test ≡ true) × (numberGiven cs ≡ 0)
-unfolding judged
-none-stops true why cs e = (refl, e)
-none-stops false why cs e = absurd (omega (arith, some-number why, e))
 
 -- what the tests of the run say where all are passed
 record Passed (l : RunSlices) : Type 0 where

@@ -26,7 +26,8 @@ use Rattle.message.specs.declared.word.Reading.the-variants.{Message as Says, L
 use Rattle.message.proofs.CodeLaws.{code-below}
 use Rattle.message.proofs.WordLaws.{word-below, words-one-to-one, head-of-extended, standard-of-head, standard-of-address, standard-of-function}
 use Rattle.message.specs.declared.word.Word.{Word}
-use Rattle.burst.specs.Frames.{bitsOf, pairsOf, frameOf, frameLength, burstOf, FrameLengths, BurstLengths, FramesOneToOne, NoFrameBeginsAnother}
+use Rattle.burst.specs.Frames.{bitsOf, pairsOf, frameOf, frameLength, burstOf, FrameLengths, BurstLengths, BurstHalves, FramesOneToOne}
+use Rattle.burst.specs.Frames.{NoFrameBeginsAnother}
 
 -- ---- lengths
 
@@ -74,7 +75,7 @@ frame-halves m (suc (suc zero)) = lit< tt
 frame-halves m (suc (suc (suc zero))) = lit< tt
 frame-halves m (suc (suc (suc (suc i)))) = pairs-below (bitsOf (bitCount m) (wordOf m)) (bits-below (bitCount m) (wordOf m)) i
 
-pub burst-halves : (m : Message) (i : ℕ) → getD (burstOf m) i 0 < 2
+pub burst-halves : BurstHalves
 unfolding burstOf
 burst-halves m i = go (decLt i (length (frameOf m)))
   where

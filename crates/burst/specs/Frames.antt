@@ -1,9 +1,9 @@
 -- Frames and bursts (01, 'Frames and bursts'; XTC798's text, not the end mark of its diagram).
-use Prim.Native.Nat.{ℕ, zero, suc, _+_, _-_, _/_, _%_, _^_}
+use Prim.Native.Nat.{ℕ, zero, suc, _+_, _-_, _/_, _%_, _^_, _<_}
 use mathlib.Core.Path.{_≡_}
 use mathlib.Core.Bool.{true}
 use mathlib.Core.List.{List, [], _∷_, _++_}
-use lib.ListN.{length}
+use lib.ListN.{length, getD}
 use Rattle.message.specs.declared.Message.{Message}
 use Rattle.message.specs.declared.Message.the-variants.{Address, Function as Command, Extended}
 use Rattle.message.specs.Messages.{messageOk}
@@ -44,6 +44,10 @@ FrameLengths = (m : Message) → length (frameOf m) ≡ frameLength m
 
 abbrev pub BurstLengths : Type 0
 BurstLengths = (m : Message) → length (burstOf m) ≡ burstLength m
+
+-- "A half-cycle carries 1 or 0."
+abbrev pub BurstHalves : Type 0
+BurstHalves = (m : Message) (i : ℕ) → getD (burstOf m) i 0 < 2
 
 -- frames tell messages apart: two valid messages with equal frames are equal
 abbrev pub FramesOneToOne : Type 0

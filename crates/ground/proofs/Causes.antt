@@ -4,16 +4,20 @@
 --     bad, fine            what a test `if !judge(..)` says of the definition that `judge` computes
 --     judged-map           what becomes of an answer becomes of its causes' answer
 --     nothing-refused      where the number given is 0, the routine does what it is for
+--     none-stops           and each test was passed
+--     judged-same, judged-holds    what is done matters only there; what holds of it and of all refusals holds of the answer
+--     done-told, refused-told      what a report tells of its causes: none applies, or which one is first
 --     some-number, lowest-given      SomeNumber and LowestGiven
 use mathlib.Core.Path.{_≡_, refl, sym, ap, ap₂, _∙_}
-use mathlib.Core.Bool.{Bool, true, false, _&&_, not, and-eq-true-iff}
+use mathlib.Core.Bool.{Bool, true, false, not, and-eq-true-iff}
 use mathlib.Core.List.{List, [], _∷_}
-use Prim.Native.Nat.{ℕ, zero, suc, _≤_, _<_, min}
+use Prim.Native.Nat.{ℕ, zero, suc, _≤_, min}
 use native.Mathlib.Omega.{arith}
 use borrow.Author.Tests.{leb-true, not-true, not-false, le-leb, lt-leb, lt-ltb, le-ltb, eq-eqb, ne-eqb}
-use lib.Dec.{eqb, leb, eqb·suc-zero}
+use lib.Dec.{leb, eqb·suc-zero}
+use lib.ListN.{getD}
 use Rattle.ground.specs.Choice.{pick}
-use Rattle.ground.specs.Refusals.{refusalNumber, Cause, when, unless, judged, numberGiven, applies}
+use Rattle.ground.specs.Refusals.{refusalNumber, Report, reports, refuses, Cause, when, unless, judged, numberGiven, applies}
 use Rattle.ground.specs.Refusals.{causeNumber, lower, lowest, allFrom, rising, LowestGiven, SomeNumber}
 use Rattle.ground.specs.declared.Refusal.{Refusal}
 use Rattle.ground.specs.declared.Refusal.the-variants.{Table, Message, Record, NotCarried, Half, State, Draw}
@@ -71,7 +75,7 @@ module _ {A B : Type 0} (f : A → B) (done : A) (refused : Refusal → A) where
       go true e = e
       go false e = refl
 
--- ---- the lowest number
+-- ---- the number given
 
 pub some-number : SomeNumber
 some-number Table = omega arith
@@ -96,6 +100,80 @@ module _ {A : Type 0} (done : A) (refused : Refusal → A) where
   nothing-refused (when false why ∷ cs) e = nothing-refused cs e
   nothing-refused (unless true why ∷ cs) e = nothing-refused cs e
   nothing-refused (unless false why ∷ cs) e = absurd (omega (arith, some-number why, e))
+
+pub none-stops : (test : Bool) (why : Refusal) (cs : List Cause) → numberGiven (unless test why ∷ cs) ≡ 0 → (test ≡ true) × (numberGiven cs ≡ 0)
+unfolding judged
+none-stops true why cs e = (refl, e)
+none-stops false why cs e = absurd (omega (arith, some-number why, e))
+
+pub judged-same : {A : Type 0} {x y : A} (refused : Refusal → A) (cs : List Cause) → (numberGiven cs ≡ 0 → x ≡ y)
+    → judged cs x refused ≡ judged cs y refused
+unfolding judged
+judged-same refused [] e = e refl
+judged-same refused (when true why ∷ cs) e = refl
+judged-same refused (when false why ∷ cs) e = judged-same refused cs e
+judged-same refused (unless true why ∷ cs) e = judged-same refused cs e
+judged-same refused (unless false why ∷ cs) e = refl
+
+pub judged-holds : {A : Type 0} (P : A → Type 0) (done : A) (refused : Refusal → A) (cs : List Cause) → (numberGiven cs ≡ 0 → P done)
+    → ((why : Refusal) → P (refused why)) → P (judged cs done refused)
+unfolding judged
+judged-holds P done refused [] d r = d refl
+judged-holds P done refused (when true why ∷ cs) d r = r why
+judged-holds P done refused (when false why ∷ cs) d r = judged-holds P done refused cs d r
+judged-holds P done refused (unless true why ∷ cs) d r = judged-holds P done refused cs d r
+judged-holds P done refused (unless false why ∷ cs) d r = r why
+
+-- ---- what a report tells of its causes
+
+-- no two refusals have one number
+refusalOf : ℕ → Refusal
+refusalOf n =
+    getD (Fault ∷ Table ∷ Message ∷ Record ∷ NotCarried ∷ Half ∷ State ∷ Draw ∷ Busy ∷ Short ∷ Fault ∷ Fault ∷ RfLength ∷ Complement ∷ Code ∷ []) n Fault
+
+of-number : (why : Refusal) → refusalOf (refusalNumber why) ≡ why
+unfolding refusalOf
+of-number Table = refl
+of-number Message = refl
+of-number Record = refl
+of-number NotCarried = refl
+of-number Half = refl
+of-number State = refl
+of-number Draw = refl
+of-number Busy = refl
+of-number Short = refl
+of-number RfLength = refl
+of-number Complement = refl
+of-number Code = refl
+of-number Fault = refl
+
+same-number : (why w : Refusal) → refusalNumber why ≡ refusalNumber w → why ≡ w
+same-number why w e = sym (of-number why) ∙ ap refusalOf e ∙ of-number w
+
+-- the first cause that applies, by its number
+by-number : {B : Type 0} (done : B) (refused : Refusal → B) (why : Refusal) (cs : List Cause) → refusalNumber why ≡ numberGiven cs
+    → refused why ≡ judged cs done refused
+unfolding judged
+by-number done refused why [] e = absurd (omega (arith, some-number why))
+by-number done refused why (when true w ∷ cs) e = ap refused (same-number why w e)
+by-number done refused why (when false w ∷ cs) e = by-number done refused why cs e
+by-number done refused why (unless true w ∷ cs) e = by-number done refused why cs e
+by-number done refused why (unless false w ∷ cs) e = ap refused (same-number why w e)
+
+module _ {A : Type 0} (values : List A) (cs : List Cause) where
+  report-number : {r : Report A} → r ≡ judged cs (reports values) refuses → r .number ≡ numberGiven cs
+  report-number e = ap (λ (x : Report A). x .number) e ∙ judged-map (λ (x : Report A). x .number) (reports values) refuses cs
+
+  pub done-told : {xs : List A} → reports xs ≡ judged cs (reports values) refuses → (numberGiven cs ≡ 0) × (xs ≡ values)
+  done-told e =
+      let none = sym (report-number e) in
+      (none, ap (λ (x : Report A). x .values) (e ∙ nothing-refused (reports values) refuses cs none))
+
+  pub refused-told : (why : Refusal) → refuses why ≡ judged cs (reports values) refuses
+      → {B : Type 0} (done : B) (refused : Refusal → B) → refused why ≡ judged cs done refused
+  refused-told why e done refused = by-number done refused why cs (report-number e)
+
+-- ---- the lowest number, of numbers that rise
 
 lower-le : (n k : ℕ) → n ≤ k → lower n k ≡ n
 lower-le n zero h = refl

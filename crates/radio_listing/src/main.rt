@@ -7,6 +7,11 @@
 use libc::STDOUT_FILENO;
 use radio::RadioBytes;
 use radio::RadioCommand;
+use text::ROOM;
+use text::Text;
+use text::front;
+use text::letter;
+use text::place;
 ghost use Prim.Native.Nat.{_+_, _≤_, _<_};
 ghost use lib.ListN.{length};
 
@@ -38,21 +43,15 @@ fn command_at(row: usize) -> RadioCommand
     }
 }
 
-// A row as text. The longest, of bright, has 30 bytes.
-struct Row {
-    bytes: [u8; 32],
-    len: usize,
-}
-
-// The row with a byte more. One that is full takes no more.
-fn put(row: Row, byte: u8) -> Row {
-    let at = row.len;
+// The row with a byte more. One that is full takes no more; the longest, of bright, has 30 bytes.
+fn put(row: Text, byte: u8) -> Text {
+    let at = row.length;
     let mut bytes = row.bytes;
-    if at < 32 {
+    if at < ROOM {
         bytes[at] = byte;
-        Row {
+        Text {
             bytes: bytes,
-            len: at + 1,
+            length: at + 1,
         }
     } else {
         row
@@ -60,7 +59,7 @@ fn put(row: Row, byte: u8) -> Row {
 }
 
 // A space and a word.
-fn put_word(row: Row, word: &[u8]) -> Row {
+fn put_word(row: Text, word: &[u8]) -> Text {
     let mut r = put(row, b' ');
     let mut i = 0;
     while i < word.len() {
@@ -71,7 +70,7 @@ fn put_word(row: Row, word: &[u8]) -> Row {
 }
 
 // A tab, and a byte in eight binary digits.
-fn put_bits(row: Row, byte: u8) -> Row {
+fn put_bits(row: Text, byte: u8) -> Text {
     let mut r = put(row, b'\t');
     r = put(r, b'0' + byte / 128);
     r = put(r, b'0' + byte / 64 % 2);
@@ -84,34 +83,26 @@ fn put_bits(row: Row, byte: u8) -> Row {
 }
 
 // A house by its letter, at a row's front.
-fn put_house(house: u8) -> Row {
-    let row = Row {
-        bytes: [0; 32],
-        len: 0,
+fn put_house(house: u8) -> Text {
+    let row = Text {
+        bytes: [0; ROOM],
+        length: 0,
     };
-    put(row, b'A' + house % 16)
-}
-
-// A unit by its number from 1 to 16.
-fn put_unit(row: Row, unit: u8) -> Row {
-    if unit < 9 {
-        return put(row, b'1' + unit);
-    }
-    put(put(row, b'1'), b'0' + (unit - 9) % 10)
+    put(row, letter(house))
 }
 
 // A command in the listing's words.
-fn put_command(command: RadioCommand) -> Row {
+fn put_command(command: RadioCommand) -> Text {
     match command {
-        RadioCommand::On { house, unit } => put_word(put_unit(put_house(house), unit), b"ON"),
-        RadioCommand::Off { house, unit } => put_word(put_unit(put_house(house), unit), b"OFF"),
+        RadioCommand::On { house, unit } => put_word(place(house, unit), b"ON"),
+        RadioCommand::Off { house, unit } => put_word(place(house, unit), b"OFF"),
         RadioCommand::Bright { house } => put_word(put_house(house), b"BRIGHT 005"),
         RadioCommand::Dim { house } => put_word(put_house(house), b"DIM 005"),
     }
 }
 
 // A row as 01's rule has it: the command, and the b and c that the writer gives for it.
-fn put_row(command: RadioCommand) -> Row {
+fn put_row(command: RadioCommand) -> Text {
     let row = put_command(command);
     match radio::write(command) {
         RadioBytes::Bytes(b, _, c, _) => put_bits(put_bits(row, b), c),
@@ -140,11 +131,6 @@ fn past(text: &[u8], at: usize) -> usize
     ensures { λ r. ⌜ r ≤ length (now (text .entry)) ⌝ }
 {
     if at < text.len() { at + 1 } else { at }
-}
-
-// The front of a text, n bytes where it has so many.
-fn front(text: &[u8], n: usize) -> &[u8] {
-    if n <= text.len() { &text[..n] } else { text }
 }
 
 // Where the first three fields of a line end: at its third tab, or at its end.
@@ -202,7 +188,7 @@ fn judge_row(number: usize, line: &[u8]) -> Verdict
 {
     let row = put_row(command_at(number));
     let bytes = row.bytes;
-    judge(number + 1, line, front(&bytes[..], row.len))
+    judge(number + 1, line, front(&bytes, row.length))
 }
 
 // How many rows had each verdict.

@@ -4,7 +4,7 @@
 --     held-valid, held-length, run-valid       bytes that hold a receiver are eleven, it is valid, and so after any half-cycles
 --     events-read-back                         EventsReadBack
 --     two-parts                                TwoParts
-use mathlib.Core.Path.{_≡_, refl, sym, ap, ap₂, _∙_}
+use mathlib.Core.Path.{_≡_, refl, sym, ap, _∙_}
 use mathlib.Core.Bool.{Bool, true, false, false≢true, _||_}
 use mathlib.Core.List.{List, [], _∷_, _++_}
 use Prim.Native.Nat.{ℕ, _+_, _*_, _/_, _%_, _^_}
@@ -13,13 +13,11 @@ use borrow.Author.Tests.{eq-eqb, eqb-true}
 use lib.Dec.{eqb, leb}
 use lib.ListN.{length, getD, drop}
 use Rattle.ground.specs.Choice.{pick}
-use Rattle.ground.specs.Refusals.{judged, refusalNumber, numberGiven}
-use Rattle.ground.specs.declared.Refusal.{Refusal}
+use Rattle.ground.specs.Refusals.{judged, numberGiven}
 use Rattle.ground.specs.declared.Refusal.the-variants as refusal
 use Rattle.message.specs.Messages.{messageOk}
 use Rattle.message.specs.declared.Message.{Message}
-use Rattle.message.specs.declared.Message.the-variants.{Address, Function as Command, Extended}
-use Rattle.receiver.specs.Receivers.{freshReceiver, givenOk, receiverOk, eventNumber, stepCauses, stepOf, equalPair, unsupportedCode, brokenNumber}
+use Rattle.receiver.specs.Receivers.{freshReceiver, givenOk, receiverOk, eventNumber, stepOf, equalPair, unsupportedCode, brokenNumber}
 use Rattle.receiver.specs.Hearing.{eventsOf, receiverAfter}
 use Rattle.receiver.specs.declared.Given.{Given}
 use Rattle.receiver.specs.declared.Given.the-variants.{No, Yes}
@@ -38,7 +36,7 @@ use Rattle.receiver.specs.declared.lent.GivenRead.{GivenRead}
 use Rattle.receiver.specs.declared.lent.GivenRead.the-variants.{Given as Was, Refused as NoGiven}
 use Rattle.receiver.specs.declared.lent.ReceiverRead.{ReceiverRead}
 use Rattle.receiver.specs.declared.lent.ReceiverRead.the-variants.{Receiver as Is, Refused as NoReceiver}
-use Rattle.wire.proofs.MessageLaws.{messages-read-back}
+use Rattle.wire.proofs.MessageLaws.{message-length, messages-read-back, kept-read-back}
 
 -- ---- a receiver
 
@@ -66,10 +64,8 @@ receivers-read-back r ok = go (r .given) ok (valid-parts r ok .1)
     same g t = ap (λ (n : ℕ). takenReceiver (made n g)) (four-read-back (r .bits)) ∙ taken-valid (made (r .bits) g) t
 
     go : (g : Given) → receiverOk (made (r .bits) g) ≡ true → givenOk g ≡ true → receiverIn (receiverBytes (made (r .bits) g)) ≡ Is (made (r .bits) g)
-    go No t v = same No t
-    go (Yes (Address h u)) t v = rw (messages-read-back .message-of-bytes (Address h u) v) (same (Yes (Address h u)) t)
-    go (Yes (Command h f)) t v = rw (messages-read-back .message-of-bytes (Command h f) v) (same (Yes (Command h f)) t)
-    go (Yes (Extended h u d c)) t v = rw (messages-read-back .message-of-bytes (Extended h u d c) v) (same (Yes (Extended h u d c)) t)
+    go No t v = rw (kept-read-back .none) (same No t)
+    go (Yes m) t v = rw (kept-read-back .message m v, message-length m) (same (Yes m) t)
 
 -- ---- bytes that hold a receiver
 

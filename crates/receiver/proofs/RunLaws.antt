@@ -9,32 +9,28 @@
 use mathlib.Core.Path.{_≡_, refl, sym, ap, ap₂, _∙_}
 use mathlib.Core.Bool.{true, false≢true}
 use mathlib.Core.List.{List, [], _∷_, _++_, flatMap}
-use Prim.Native.Nat.{ℕ, zero, suc, _+_, _*_, _/_, _%_, _^_, _≤_, _<_}
+use Prim.Native.Nat.{ℕ, suc, _+_, _*_, _/_, _%_, _^_, _≤_, _<_}
 use native.Mathlib.Numerals.{add-one}
 use native.Mathlib.Omega.{arith}
 use borrow.Author.Tests.{le-leb, lt-leb}
-use lib.Dec.{leb}
-use lib.ListN.{length, getD, set, drop, length-set, length-append}
-use lib.Seq.{sets, sets-eq, length-sets, drop-cons}
-use Rattle.ground.specs.Choice.{pick}
-use Rattle.ground.specs.Refusals.{Cause, judged, reports, refuses, countReport}
+use lib.ListN.{length, set, drop, length-set}
+use lib.Seq.{sets, length-sets}
+use Rattle.ground.specs.Refusals.{judged, reports, refuses, countReport}
 use Rattle.ground.specs.declared.CountAnswer.{CountAnswer}
 use Rattle.ground.specs.declared.CountAnswer.the-variants.{Done, Refused}
 use Rattle.ground.specs.declared.Refusal.{Refusal}
 use Rattle.ground.specs.declared.Refusal.the-variants as refusal
 use Rattle.ground.proofs.Causes.{lowest-given}
 use Rattle.ground.proofs.Lists.{sets-whole, sets-front, flat-length}
-use Rattle.message.specs.declared.Message.{Message}
-use Rattle.message.specs.declared.Message.the-variants.{Address, Function as Command, Extended}
 use Rattle.receiver.specs.Receivers.{stepOf}
 use Rattle.receiver.specs.Hearing.{eventsOf, receiverAfter}
 use Rattle.receiver.specs.declared.Receiver.{Receiver}
-use Rattle.receiver.specs.declared.Heard.{Heard}
 use Rattle.receiver.specs.declared.Event.{Event}
 use Rattle.receiver.specs.declared.Event.the-variants.{Nothing, Message as Gives, Repeat, BrokenPair, BrokenUnsupported, Refused as Stays}
-use Rattle.receiver.specs.declared.lent.Five.{Five}
-use Rattle.wire.specs.Messages.{messageBytes}
-use Rattle.receiver.specs.Bytes.{listed, receiverIn, isReceiver, holdsReceiver, eventsBy, givenBytes, receiverBytes, eventBytes}
+use Rattle.wire.specs.Messages.{listed}
+use Rattle.wire.specs.declared.Five.{Five}
+use Rattle.wire.proofs.MessageLaws.{message-length}
+use Rattle.receiver.specs.Bytes.{receiverIn, isReceiver, holdsReceiver, eventsBy, givenBytes, receiverBytes, eventBytes}
 use Rattle.receiver.specs.Bytes.{eventsHeard, bytesAfter, receiveCauses, receiveAnswer, stateAfter, eventsAfter, RunsLowest, putCauses, stretchCauses}
 use Rattle.receiver.specs.declared.lent.ReceiverRead.{ReceiverRead}
 use Rattle.receiver.specs.declared.lent.ReceiverRead.the-variants.{Receiver as Is, Refused as NoReceiver}
@@ -57,11 +53,6 @@ coded evs after at code five bytes e f = (
 )
 
 -- ---- six bytes for each event
-
-message-length : (m : Message) → length (messageBytes m) ≡ 5
-message-length (Address h u) = refl
-message-length (Command h f) = refl
-message-length (Extended h u d c) = refl
 
 pub event-length : (e : Event) → length (eventBytes e) ≡ 6
 event-length Nothing = refl

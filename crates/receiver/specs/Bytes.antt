@@ -1,12 +1,11 @@
 -- A receiver as eleven bytes, an event as six, and a run of a receiver in lent bytes over half-cycles that are lent.
 use Prim.Native.Nat.{ℕ, _+_, _*_, _/_, _%_, _^_}
 use mathlib.Core.Path.{_≡_}
-use mathlib.Core.Bool.{Bool, true, false, _&&_}
+use mathlib.Core.Bool.{Bool, true, false}
 use mathlib.Core.List.{List, [], _∷_, _++_, flatMap}
 use lib.Dec.{eqb, leb}
 use lib.ListN.{length, getD, drop}
 use lib.Seq.{sets}
-use Rattle.ground.specs.Choice.{pick}
 use Rattle.ground.specs.Refusals.{Report, reports, refuses, Cause, unless, judged, numberGiven, lowest}
 use Rattle.ground.specs.declared.Refusal.the-variants as refusal
 use Rattle.ground.specs.declared.CountAnswer.{CountAnswer}
@@ -19,12 +18,12 @@ use Rattle.receiver.specs.declared.Given.the-variants.{No, Yes}
 use Rattle.receiver.specs.declared.Receiver.{Receiver}
 use Rattle.receiver.specs.declared.Event.{Event}
 use Rattle.receiver.specs.declared.Event.the-variants.{Nothing, Message as Gives, Repeat, BrokenPair, BrokenUnsupported, Refused as Stays}
-use Rattle.wire.specs.Messages.{messageFrom, messageIn, messageBytes, asWritten}
-use Rattle.wire.specs.declared.MessageRead.{MessageRead}
-use Rattle.wire.specs.declared.MessageRead.the-variants.{Message as Says, Refused as NoMessage}
+use Rattle.wire.specs.Messages.{messageIn, messageBytes, noneBytes, keptFrom}
+use Rattle.wire.specs.declared.KeptRead.{KeptRead}
+use Rattle.wire.specs.declared.KeptRead.the-variants as kept
+use Rattle.wire.specs.declared.MessageRead.the-variants.{Message as Says}
 use Rattle.receiver.specs.declared.lent.GivenRead.{GivenRead}
 use Rattle.receiver.specs.declared.lent.GivenRead.the-variants.{Given as Was, Refused as NoGiven}
-use Rattle.receiver.specs.declared.lent.Five.{Five}
 use Rattle.receiver.specs.declared.lent.Stretch.{Stretch}
 use Rattle.receiver.specs.declared.lent.ReceiverRead.{ReceiverRead}
 use Rattle.receiver.specs.declared.lent.ReceiverRead.the-variants.{Receiver as Is, Refused as NoReceiver}
@@ -34,20 +33,14 @@ use Rattle.receiver.specs.declared.lent.ReceiverRead.the-variants.{Recei
 abbrev pub RECEIVER-BYTES : ℕ
 RECEIVER-BYTES = 11
 
--- five numbers in their order
-abbrev pub listed : Five → List ℕ
-listed f = f .kind ∷ f .house ∷ f .third ∷ f .data ∷ f .command ∷ []
-
--- the message given before: none where all five bytes are 0, else the message that they say; data and command are 0 for kinds 1 and 2
-abbrev pub givenAs : MessageRead → GivenRead
-givenAs (Says m) = Was (Yes m)
-givenAs (NoMessage why) = NoGiven refusal.State
+-- the message given before, or none, as five bytes keep it
+abbrev pub givenAs : KeptRead → GivenRead
+givenAs kept.Nothing = Was No
+givenAs (kept.Message m) = Was (Yes m)
+givenAs (kept.Refused why) = NoGiven why
 
 unfoldable pub givenFrom : ℕ → ℕ → ℕ → ℕ → ℕ → GivenRead
-givenFrom kind house third «data» command =
-    pick (eqb kind 0 && eqb house 0 && eqb third 0 && (eqb «data» 0 && eqb command 0)) (Was No)
-    (pick (asWritten kind «data» command) (givenAs (messageFrom kind house third «data» command))
-    (NoGiven refusal.State))
+givenFrom kind house third «data» command = givenAs (keptFrom kind house third «data» command)
 
 -- a number of four bytes, highest first
 abbrev pub fromFour : ℕ → ℕ → ℕ → ℕ → ℕ
@@ -86,7 +79,7 @@ receiverReport (NoReceiver why) = refuses why
 
 -- the bytes of a receiver
 abbrev pub givenBytes : Given → List ℕ
-givenBytes No = 0 ∷ 0 ∷ 0 ∷ 0 ∷ 0 ∷ []
+givenBytes No = noneBytes
 givenBytes (Yes m) = messageBytes m
 
 unfoldable pub receiverBytes : Receiver → List ℕ
@@ -127,11 +120,11 @@ eventCode (Stays why) = eventNumber (Stays why)
 
 abbrev pub eventMessage : Event → List ℕ
 eventMessage (Gives m) = messageBytes m
-eventMessage Repeat = givenBytes No
-eventMessage Nothing = givenBytes No
-eventMessage BrokenPair = givenBytes No
-eventMessage BrokenUnsupported = givenBytes No
-eventMessage (Stays why) = givenBytes No
+eventMessage Repeat = noneBytes
+eventMessage Nothing = noneBytes
+eventMessage BrokenPair = noneBytes
+eventMessage BrokenUnsupported = noneBytes
+eventMessage (Stays why) = noneBytes
 
 abbrev pub eventBytes : Event → List ℕ
 eventBytes e = eventCode e ∷ eventMessage e

@@ -8,9 +8,11 @@ use ground::CountAnswer;
 use ground::Refusal;
 use ground::refusal_number;
 use message::Message;
-use message::codes::function_code;
-use wire::MessageRead;
-use wire::message_from;
+use wire::Five;
+use wire::KeptRead;
+use wire::five_none;
+use wire::five_of;
+use wire::kept_from;
 ghost use mathlib.Core.Path.{_≡_};
 ghost use mathlib.Core.Bool.{true};
 ghost use mathlib.Core.List.{[], _∷_, flatMap};
@@ -18,24 +20,13 @@ ghost use Prim.Native.Nat.{_+_, _*_, _≤_};
 ghost use lib.ListN.{length, drop};
 ghost use lib.Seq.{sets};
 ghost use Rattle.ground.specs.Refusals.{countReport, reports, refuses, judged, numberGiven};
-ghost use Rattle.wire.specs.Messages.{messageBytes};
+ghost use Rattle.wire.specs.Messages.{messageBytes, noneBytes, listed};
 ghost use Rattle.receiver.specs.Receivers.{freshReceiver, receiverOk};
 ghost use Rattle.receiver.specs.Hearing.{eventsOf, receiverAfter, givenBy, firstGiven, toGiven};
-ghost use Rattle.receiver.specs.Bytes.{listed, givenFrom, fromFour, takenReceiver, receiverIn};
+ghost use Rattle.receiver.specs.Bytes.{givenFrom, fromFour, takenReceiver, receiverIn};
 ghost use Rattle.receiver.specs.Bytes.{receiverReport, heldCauses, givenBytes, receiverBytes, eventBytes};
 ghost use Rattle.receiver.specs.Bytes.{putCauses, putAnswer, putAfter, freshAnswer, freshAfter, receiveCauses, receiveAnswer, stateAfter, eventsAfter};
 ghost use Rattle.receiver.specs.Bytes.{stretchCauses, stretchOf, stretchEvents};
-ghost use Rattle.receiver.specs.declared.Given.the-variants.{No};
-
-// The five numbers of a message: its kind (1 address, 2 function, 3 extended), its house, its unit or its function's code, and the
-// data and the command of an extended one.
-struct Five {
-    kind: u8,
-    house: u8,
-    third: u8,
-    data: u8,
-    command: u8,
-}
 
 // What the five bytes of the message given before say.
 enum GivenRead {
@@ -68,16 +59,10 @@ struct Ran {
 fn given_from(kind: u8, house: u8, third: u8, data: u8, command: u8) -> GivenRead
     ensures { λ r. ⌜ r ≡ givenFrom kind house third «data» command ⌝ }
 {
-    let ends = (data == 0) & (command == 0);
-    if (kind == 0) & (house == 0) & (third == 0) & ends {
-        return GivenRead::Given(Given::No);
-    }
-    if !((kind == 3) | ends) {
-        return GivenRead::Refused(Refusal::State);
-    }
-    match message_from(kind, house, third, data, command) {
-        MessageRead::Message(m) => GivenRead::Given(Given::Yes(m)),
-        MessageRead::Refused(_) => GivenRead::Refused(Refusal::State),
+    match kept_from(kind, house, third, data, command) {
+        KeptRead::Nothing => GivenRead::Given(Given::No),
+        KeptRead::Message(m) => GivenRead::Given(Given::Yes(m)),
+        KeptRead::Refused(why) => GivenRead::Refused(why),
     }
 }
 
@@ -119,52 +104,12 @@ pub fn receiver_in(state: &[u8]) -> ReceiverRead
     }
 }
 
-// The five numbers of a message, 0 for data and command where it has none.
-fn five_of(m: Message) -> Five
-    ensures { λ r. ⌜ listed r ≡ messageBytes m ⌝ }
-{
-    match m {
-        Message::Address { house, unit } => Five {
-            kind: 1,
-            house: house,
-            third: unit,
-            data: 0,
-            command: 0,
-        },
-        Message::Function { house, function } => Five {
-            kind: 2,
-            house: house,
-            third: function_code(function),
-            data: 0,
-            command: 0,
-        },
-        Message::Extended {
-            house,
-            unit,
-            data,
-            command,
-        } => Five {
-            kind: 3,
-            house: house,
-            third: unit,
-            data: data,
-            command: command,
-        },
-    }
-}
-
 // The five bytes of the message given before, all 0 where there is none.
 fn five_given(given: Given) -> Five
     ensures { λ r. ⌜ listed r ≡ givenBytes given ⌝ }
 {
     match given {
-        Given::No => Five {
-            kind: 0,
-            house: 0,
-            third: 0,
-            data: 0,
-            command: 0,
-        },
+        Given::No => five_none(),
         Given::Yes(m) => five_of(m),
     }
 }
@@ -233,10 +178,10 @@ fn put_five(events: &mut [u8], at: usize, five: Five)
 // Puts the six bytes of an event that has no message.
 fn put_plain(events: &mut [u8], at: usize, code: u8)
     requires { ⌜ at + 6 ≤ length (now events) ⌝ }
-    ensures { λ _. ⌜ now (events .exit) ≡ sets (now (events .entry)) at (code ∷ givenBytes No) ⌝ }
+    ensures { λ _. ⌜ now (events .exit) ≡ sets (now (events .entry)) at (code ∷ noneBytes) ⌝ }
 {
     events[at] = code;
-    put_five(events, at + 1, five_given(Given::No));
+    put_five(events, at + 1, five_none());
 }
 
 // Puts the six bytes of MESSAGE.

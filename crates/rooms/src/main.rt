@@ -1,5 +1,5 @@
 // Sequences of messages that a user would try, each on a few modules. A message is printed with what `apply` answered, and under it
-// each record and house byte that it changed, as they are then. The file `stdout` was worked out from 01 by hand.
+// each record and house byte that it changed, as they are then. What the file `stdout` says was worked out from 01 by hand.
 use message::Function;
 use message::Message;
 use radio::RadioBytes;
@@ -9,7 +9,7 @@ use record::TABLE_BYTES;
 use room::apply;
 use room::mains::mains_route;
 use room::routes::radio_route;
-use show::text;
+use show::print;
 
 mod show;
 
@@ -147,7 +147,7 @@ fn radio_on(before: [u8; TABLE_BYTES], unit: u8) -> [u8; TABLE_BYTES] {
 fn both_buttons() {
     let mut state = [0u8; 11];
     receiver::lent::fresh(&mut state);
-    text(b"Reading, by the wall\n");
+    print(b"Reading, by the wall\n");
     let wall = wall_on(
         Listening {
             table: new_room(),
@@ -157,15 +157,15 @@ fn both_buttons() {
     );
     let wall = wall_on(wall, 2);
     let by_wall = wall.table;
-    text(b"Reading, by radio\n");
+    print(b"Reading, by radio\n");
     let by_radio = radio_on(radio_on(new_room(), 0), 2);
-    text(b"what the two tables differ in\n");
+    print(b"what the two tables differ in\n");
     show::changed_records(&by_wall, &by_radio);
     show::changed_houses(&by_wall, &by_radio);
 }
 
 fn called_together() {
-    text(b"Two lamps called before one command\n");
+    print(b"Two lamps called before one command\n");
     let t = address(new_room(), 0);
     let t = address(t, 2);
     let t = function(t, Function::On);
@@ -174,7 +174,7 @@ fn called_together() {
 }
 
 fn floor_and_ceiling() {
-    text(b"Dim to the floor, bright to the ceiling\n");
+    print(b"Dim to the floor, bright to the ceiling\n");
     let t = extended(new_room(), 0, 0x31, 0x0A);
     let t = address(t, 0);
     let t = function(t, Function::Dim);
@@ -195,7 +195,7 @@ fn floor_and_ceiling() {
 }
 
 fn groups() {
-    text(b"Groups joined, executed, left\n");
+    print(b"Groups joined, executed, left\n");
     let t = extended(new_room(), 0, 0x31, 0x14);
     let t = extended(t, 0, 0x30, 0x40);
     let t = extended(t, 1, 0x32, 0x68);
@@ -214,7 +214,7 @@ fn groups() {
 }
 
 fn all_off() {
-    text(b"All lights and all units\n");
+    print(b"All lights and all units\n");
     let t = address(new_room(), 0);
     let t = address(t, 3);
     let t = function(t, Function::AllLightsOn);
@@ -227,7 +227,7 @@ fn all_off() {
 }
 
 fn absent_units() {
-    text(b"Absent units\n");
+    print(b"Absent units\n");
     let t = address(new_room(), 0);
     let t = function(t, Function::On);
     let t = address(t, 8);
@@ -240,7 +240,7 @@ fn absent_units() {
 }
 
 fn appliance() {
-    text(b"An appliance with presets\n");
+    print(b"An appliance with presets\n");
     let t = extended(new_room(), 3, 0x31, 0x05);
     let t = extended(t, 3, 0x30, 0x80);
     let t = extended(t, 3, 0x31, 0xC0);
@@ -251,7 +251,7 @@ fn appliance() {
 }
 
 fn heard_only() {
-    text(b"Heard only, and not carried\n");
+    print(b"Heard only, and not carried\n");
     let t = function(new_room(), Function::HailRequest);
     let t = function(t, Function::StatusOn);
     let t = extended(t, 0, 0x37, 0x00);
@@ -268,11 +268,11 @@ fn heard_only() {
 
 // The lowest number that applies: a short table, a house or a unit above 15, a lamp at 64, a command that is not carried.
 fn refusals() {
-    text(b"Refused\n");
+    print(b"Refused\n");
     let far = Message::Address { house: 16, unit: 0 };
     let mut short = [0u8; 2063];
     let a = apply(&mut short, far);
-    text(b"2063 bytes, ");
+    print(b"2063 bytes, ");
     show::applied(far, a);
     let t = send(new_room(), far);
     let t = extended(t, 16, 0x33, 0x00);

@@ -1,135 +1,64 @@
 // Lines for a reader: a message with what applying it answered, and what it changed in the table.
 use ground::refusal_number;
 use libc::STDOUT_FILENO;
-use message::Function;
 use message::Message;
-use message::codes::name_of;
 use record::HEARD_AT;
 use record::HOUSES;
 use record::RECORD_BYTES;
 use record::RECORDS;
 use record::TABLE_BYTES;
 use room::RoomAnswer;
-ghost use Prim.Native.Nat.{_≤_, _<_};
+use text::Text;
+use text::front;
+use text::hex;
+use text::letter;
+use text::place;
+ghost use Prim.Native.Nat.{_<_};
 
-const DIGITS: [u8; 16] = *b"0123456789ABCDEF";
-
-const LETTERS: [u8; 16] = *b"ABCDEFGHIJKLMNOP";
-
-pub(crate) fn text(s: &[u8]) {
+pub(crate) fn print(s: &[u8]) {
     io::write_all(STDOUT_FILENO, s);
+}
+
+fn print_text(t: Text) {
+    let bytes = t.bytes;
+    print(front(&bytes, t.length));
 }
 
 fn number(n: u64) {
     io::print_decimal(STDOUT_FILENO, n);
 }
 
-// A byte as two hexadecimal digits.
-fn hex(n: u8) {
-    let high = (n / 16) as usize;
-    let low = (n % 16) as usize;
-    let pair = [DIGITS[high], DIGITS[low]];
-    text(&pair);
-}
-
-// A house's letter; a house above 15 by its number.
-fn house(h: u8) {
-    let n = h as usize;
-    if n < 16 {
-        let letter = [LETTERS[n]];
-        text(&letter);
-    } else {
-        text(b"house ");
-        number(h as u64);
-    }
-}
-
-// A unit as 1 to 16.
-fn unit(h: u8, u: u8) {
-    house(h);
-    if h >= 16 {
-        text(b" unit ");
-    }
-    number(u as u64 + 1);
-}
-
-// How many letters a name has that is filled up with 0.
-fn length(name: &[u8; 16]) -> usize
-    ensures { λ r. ⌜ r ≤ 16 ⌝ }
-{
-    let mut n: usize = 0;
-    while n < 16 {
-        if name[n] == 0 {
-            return n;
-        }
-        n += 1;
-    }
-    n
-}
-
-fn name(f: Function) {
-    let letters = name_of(f);
-    let n = io::count(length(&letters) as isize, &letters);
-    text(&letters[..n]);
-}
-
-fn message(m: Message) {
-    match m {
-        Message::Address { house: h, unit: u } => {
-            text(b"address ");
-            unit(h, u);
-        }
-        Message::Function { house: h, function } => {
-            house(h);
-            text(b" ");
-            name(function);
-        }
-        Message::Extended {
-            house: h,
-            unit: u,
-            data,
-            command,
-        } => {
-            unit(h, u);
-            text(b" extended ");
-            hex(command);
-            text(b" data ");
-            hex(data);
-        }
-    }
-}
-
 fn answer(a: RoomAnswer) {
     match a {
         RoomAnswer::Done(c) => {
             number(c.levels as u64);
-            text(b" changed\n");
+            print(b" changed\n");
         }
         RoomAnswer::Refused(why) => {
-            text(b"refused ");
+            print(b"refused ");
             number(refusal_number(why) as u64);
-            text(b"\n");
+            print(b"\n");
         }
     }
 }
 
 pub(crate) fn applied(m: Message, a: RoomAnswer) {
-    message(m);
-    text(b": ");
+    print_text(text::message(m, b' '));
+    print(b": ");
     answer(a);
 }
 
 // A radio code, and what came of it.
 pub(crate) fn coded(code: &[u8; 4], a: RoomAnswer) {
-    text(b"radio ");
-    hex(code[0]);
-    text(b" ");
-    hex(code[1]);
-    text(b" ");
-    hex(code[2]);
-    text(b" ");
-    hex(code[3]);
-    text(b": ");
+    print(b"radio ");
+    print_text(hex(code[0]));
+    print(b" ");
+    print_text(hex(code[1]));
+    print(b" ");
+    print_text(hex(code[2]));
+    print(b" ");
+    print_text(hex(code[3]));
+    print(b": ");
     answer(a);
 }
 
@@ -150,15 +79,15 @@ fn differs(before: &[u8; TABLE_BYTES], after: &[u8; TABLE_BYTES], i: usize) -> b
 
 fn kind(k: u8) {
     match k {
-        0 => text(b" none"),
-        1 => text(b" lamp"),
-        2 => text(b" appliance"),
-        _ => text(b" no kind"),
+        0 => print(b" none"),
+        1 => print(b" lamp"),
+        2 => print(b" appliance"),
+        _ => print(b" no kind"),
     }
 }
 
 fn field(name: &[u8], value: u8) {
-    text(name);
+    print(name);
     number(value as u64);
 }
 
@@ -167,8 +96,8 @@ fn record(t: &[u8; TABLE_BYTES], i: usize)
     requires { ⌜ i < 256 ⌝ }
 {
     let at = i * RECORD_BYTES;
-    text(b"  ");
-    unit((i / 16) as u8, (i % 16) as u8);
+    print(b"  ");
+    print_text(place((i / 16) as u8, (i % 16) as u8));
     kind(t[at]);
     field(b" level ", t[at + 1]);
     field(b" addressed ", t[at + 2]);
@@ -177,7 +106,7 @@ fn record(t: &[u8; TABLE_BYTES], i: usize)
     field(b" ", t[at + 5]);
     field(b" ", t[at + 6]);
     field(b" ", t[at + 7]);
-    text(b"\n");
+    print(b"\n");
 }
 
 // Record i, if it differs, as it is after.
@@ -195,10 +124,11 @@ fn house_change(before: &[u8; TABLE_BYTES], after: &[u8; TABLE_BYTES], h: usize)
 {
     let x = after[HEARD_AT + h];
     if before[HEARD_AT + h] != x {
-        text(b"  ");
-        house(h as u8);
+        print(b"  ");
+        let house = [letter(h as u8)];
+        print(&house);
         field(b" command heard ", x);
-        text(b"\n");
+        print(b"\n");
     }
 }
 

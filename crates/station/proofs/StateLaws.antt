@@ -1,6 +1,6 @@
 -- How a station's state is judged in one look: it is idle, or it is about to send.
 --
---     Fine, fine-station         what a station with a message has in one of the states
+--     Fine, fine-station, station-fine     what a station with a message has in one of the states, and no other
 --     idle-empty, idle-holds     which stations are idle
 --     empty-busy, holds-busy     which of the others are in one of the states
 --     idle-told                  an idle station is in one of the states, and sends 0
@@ -46,6 +46,12 @@ fine-station m s e ok =
       within = ltb-true (s .place) (burstLength m) (placing .0);
       early = rest .0;
     }
+
+pub station-fine : (m : Message) (s : Station) → s .held ≡ Holds m → Fine m s → stationOk s ≡ true
+unfolding stationOk
+station-fine m s e f =
+    ap (λ (x : Held). heldOk x (s .wait) (s .count) (s .place)) e
+    ∙ simp (f .drawn-wait, le-leb (s .count) (s .wait) (f .counts), lt-ltb (s .place) (burstLength m) (f .within), f .early, f .valid)
 
 -- ---- idle
 

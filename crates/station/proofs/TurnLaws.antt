@@ -1,16 +1,18 @@
 -- Laws of a station whose state is one of 01's.
 --
---     sends-told, refused-told                   what the answer of `sends` says of the state
+--     sends-told, refuses-told                   what the answer of `sends` says of the state
 --     Movable, turn-empty                        a judged station that has sent and heard; an empty one stays
 --     turn-aborts, turn-counts, turn-goes, turn-ends     what one half-cycle makes of one with a message, by the tests of `moves`
 --     by-done, by-going                          the turn that a move's numbers stand for
+--     held-goes                                  a half-cycle that is not refused goes on or says DONE
 --     send-promise, load-promise, turn-promise   what each answer reports, by its causes
+--     stays-station                              StaysStation
 use mathlib.Core.Path.{_≡_, refl, sym, ap, _∙_}
-use mathlib.Core.Bool.{Bool, true, false, or-false}
+use mathlib.Core.Bool.{Bool, true, false, or-false, or-true}
 use mathlib.Core.List.{[], _∷_}
 use Prim.Native.Nat.{ℕ, _+_, _≤_, _<_}
 use native.Mathlib.Omega.{arith}
-use native.Mathlib.Decide.{decLt}
+use native.Mathlib.Decide.{decLt, ℕ-discrete}
 use borrow.Author.Tests.{eqb-true, eq-eqb, ne-eqb, le-leb, lt-leb}
 use lib.Dec.{eqb}
 use lib.ListN.{getD}
@@ -19,11 +21,13 @@ use Rattle.ground.specs.Refusals.{Report, reports, refuses, judged}
 use Rattle.ground.specs.declared.Refusal.{Refusal}
 use Rattle.ground.specs.declared.Refusal.the-variants as refusal
 use Rattle.ground.proofs.Choices.{pick-both}
-use Rattle.ground.proofs.Causes.{judged-map}
+use Rattle.ground.proofs.Causes.{judged-map, judged-holds, none-stops}
+use Rattle.message.specs.Messages.{messageOk}
 use Rattle.message.specs.declared.Message.{Message}
 use Rattle.burst.specs.Frames.{burstOf, burstLength}
+use Rattle.burst.proofs.Writing.{frame-of-bits}
 use Rattle.station.specs.Stations.{emptyStation, loaded, drawOk, stationOk, loadOf, loadCauses, loadReport, heldSends, sendsOf, sendOf}
-use Rattle.station.specs.Stations.{sendCauses, sendReport, heldMoves, turnCauses, turnOf, isDone, turnReport, turnBy}
+use Rattle.station.specs.Stations.{sendCauses, sendReport, sendsOn, heldMoves, turnCauses, turnOf, isDone, turnReport, turnBy, StaysStation}
 use Rattle.station.specs.declared.Held.{Held}
 use Rattle.station.specs.declared.Held.the-variants.{Empty, Holds}
 use Rattle.station.specs.declared.Loading.{Loading}
@@ -34,7 +38,7 @@ use Rattle.station.specs.declared.Station.{Station}
 use Rattle.station.specs.declared.Turn.{Turn}
 use Rattle.station.specs.declared.TurnAnswer.the-variants as turn
 use Rattle.station.proofs.SendLaws.{no-fault}
-use Rattle.station.proofs.StateLaws.{Fine, fine-station}
+use Rattle.station.proofs.StateLaws.{Fine, fine-station, station-fine}
 
 -- ---- what `sends` tells
 
@@ -47,9 +51,9 @@ module _ (s : Station) where
       go true e = (refl, cc)
       go false e = (cc, cc)
 
-  pub refused-told : (why : Refusal) → sendOf s ≡ send.Refused why → stationOk s ≡ false
+  pub refuses-told : (why : Refusal) → sendOf s ≡ send.Refused why → stationOk s ≡ false
   unfolding sendOf judged
-  refused-told why e = go (stationOk s) e
+  refuses-told why e = go (stationOk s) e
     where
       go : (ok : Bool) → pick ok (send.Sends (sendsOf s)) (send.Refused refusal.State) ≡ send.Refused why → ok ≡ false
       go true e = cc
@@ -163,12 +167,20 @@ load-promise s m draw e =
 abbrev Moved : Turn → Type 0
 Moved o = turnReport (o .answer) ≡ reports (isDone (o .answer) ∷ [])
 
+-- a half-cycle that is not refused goes on or says DONE
+module _ (P : Turn → Type 0) (going : (next : Station) → P (record { answer = turn.Going; next = next }))
+    (done : (next : Station) → P (record { answer = turn.Done; next = next })) where
+  pub held-goes : (h : Held) (s : Station) (heard draw : ℕ) → P (heldMoves h s heard draw)
+  held-goes Empty s heard draw = going s
+  held-goes (Holds m) s heard draw =
+      pick-both P (eqb (s .count) (s .wait)) _ _
+      (pick-both P (eqb (getD (burstOf m) (s .place) 0) heard) _ _
+      (pick-both P (eqb (s .place + 1) (burstLength m)) _ _ (done _) (going _))
+      (going _))
+      (going _)
+
 held-reports : (h : Held) (s : Station) (heard draw : ℕ) → Moved (heldMoves h s heard draw)
-held-reports Empty s heard draw = refl
-held-reports (Holds m) s heard draw =
-    pick-both Moved (eqb (s .count) (s .wait)) _ _
-    (pick-both Moved (eqb (getD (burstOf m) (s .place) 0) heard) _ _ (pick-both Moved (eqb (s .place + 1) (burstLength m)) _ _ refl refl) refl)
-    refl
+held-reports = held-goes Moved (λ next. refl) (λ next. refl)
 
 pub turn-promise : {o : Turn} (s : Station) (heard draw : ℕ) → o ≡ turnOf s heard draw
     → (o ≡ turnOf s heard draw)
@@ -181,3 +193,77 @@ turn-promise s heard draw e =
           ∙ judged-map report _ _ (turnCauses s heard draw)
           ∙ ap (λ (x : Report Bool). judged (turnCauses s heard draw) x refuses) (held-reports (s .held) s heard draw),
     )
+
+-- ---- a station stays in a state that there is
+
+-- newly loaded
+loaded-ok : (m : Message) (draw : ℕ) → messageOk m ≡ true → drawOk draw ≡ true → stationOk (loaded m draw) ≡ true
+loaded-ok m draw valid drawn =
+    station-fine m (loaded m draw) refl
+    (record { valid = valid; drawn-wait = drawn; counts = omega arith; within = omega (arith, frame-of-bits m); early = refl })
+
+module _ (m : Message) (s : Station) (f : Fine m s) (heard draw : ℕ) (drawn : drawOk draw ≡ true) where
+  abbrev With : ℕ → ℕ → Station
+  With count place = record { held = Holds m; wait = s .wait; count = count; place = place }
+
+  fresh : stationOk (loaded m draw) ≡ true
+  fresh = loaded-ok m draw (f .valid) drawn
+
+  sends-on : s .count ≡ s .wait → stationOk (sendsOn m (s .wait) (s .count) (s .place) .next) ≡ true
+  unfolding stationOk
+  sends-on level = go (ℕ-discrete (s .place + 1) (burstLength m))
+    where
+      go : Dec (s .place + 1 ≡ burstLength m) → stationOk (sendsOn m (s .wait) (s .count) (s .place) .next) ≡ true
+      go (yes e) = rw (eq-eqb (s .place + 1) (burstLength m) e)
+      go (no n) =
+          rw (ne-eqb (s .place + 1) (burstLength m) n)
+          (station-fine m (With (s .count) (s .place + 1)) refl
+          (record {
+            valid = f .valid;
+            drawn-wait = f .drawn-wait;
+            counts = f .counts;
+            within = omega (arith, f .within);
+            early = rw (le-leb (s .wait) (s .count) (omega arith)) (or-true (eqb (s .place + 1) 0));
+          }))
+
+  holds-stays : stationOk (heldMoves (Holds m) s heard draw .next) ≡ true
+  holds-stays = go (ℕ-discrete (s .count) (s .wait))
+    where
+      P : Turn → Type 0
+      P t = stationOk (t .next) ≡ true
+
+      go : Dec (s .count ≡ s .wait) → P (heldMoves (Holds m) s heard draw)
+      go (yes e) =
+          rw (eq-eqb (s .count) (s .wait) e)
+          (pick-both P (eqb (getD (burstOf m) (s .place) 0) heard) _ _ (sends-on e) fresh)
+      go (no n) =
+          rw (ne-eqb (s .count) (s .wait) n)
+          (pick-both (λ (x : Station). stationOk x ≡ true) (eqb heard 1) _ _ fresh
+          (station-fine m (With (s .count + 1) 0) refl
+          (record {
+            valid = f .valid;
+            drawn-wait = f .drawn-wait;
+            counts = omega (arith, f .counts);
+            within = omega (arith, f .within);
+            early = refl;
+          })))
+
+pub stays-station : StaysStation
+unfolding stationOk loadOf turnOf
+stays-station = record { empty = refl; load = loads; turn = turns }
+  where
+    loads : (s : Station) (m : Message) (draw : ℕ) → stationOk s ≡ true → stationOk (loadOf s m draw .next) ≡ true
+    loads s m draw ok =
+        judged-holds (λ (o : Loading). stationOk (o .next) ≡ true) _ _ (loadCauses s m draw)
+        (λ none. let a = none-stops _ _ _ none in let b = none-stops _ _ _ (a .1) in loaded-ok m draw (a .0) (none-stops _ _ _ (b .1) .0))
+        (λ why. ok)
+
+    turns : (s : Station) (heard draw : ℕ) → stationOk s ≡ true → stationOk (turnOf s heard draw .next) ≡ true
+    turns s heard draw ok =
+        judged-holds (λ (o : Turn). stationOk (o .next) ≡ true) _ _ (turnCauses s heard draw)
+        (λ none. let a = none-stops _ _ _ none in let b = none-stops _ _ _ (a .1) in go (s .held) refl (none-stops _ _ _ (b .1) .0))
+        (λ why. ok)
+      where
+        go : (h : Held) → s .held ≡ h → drawOk draw ≡ true → stationOk (heldMoves h s heard draw .next) ≡ true
+        go Empty e drawn = ok
+        go (Holds m) e drawn = holds-stays m s (fine-station m s e ok) heard draw drawn

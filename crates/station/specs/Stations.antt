@@ -1,5 +1,6 @@
 -- The station (01, 'Station and bench', 'Numbers given back'): loading, what it sends, and one half-cycle of it.
 use Prim.Native.Nat.{ℕ, _+_}
+use mathlib.Core.Path.{_≡_}
 use mathlib.Core.Bool.{Bool, true, false, _&&_, _||_}
 use mathlib.Core.List.{List, [], _∷_}
 use lib.Dec.{eqb, leb, ltb}
@@ -163,3 +164,11 @@ abbrev pub turnBy : Held → Move → Turn
 turnBy h v =
     pick (v .done) (record { answer = turn.Done; next = emptyStation })
     (record { answer = turn.Going; next = record { held = h; wait = v .wait; count = v .count; place = v .place } })
+
+-- ---- what holds of every call: proofs/TurnLaws.antt
+
+-- a station in a state that there is stays in one, loaded and after any half-cycle
+pub record StaysStation : Type 0 where
+  pub empty : stationOk emptyStation ≡ true
+  pub load : (s : Station) (m : Message) (draw : ℕ) → stationOk s ≡ true → stationOk (loadOf s m draw .next) ≡ true
+  pub turn : (s : Station) (heard draw : ℕ) → stationOk s ≡ true → stationOk (turnOf s heard draw .next) ≡ true

@@ -31,6 +31,7 @@ use stations::draws_at;
 use stations::put_stations;
 use stations::sixteen;
 use stations::waits_8_and_9;
+use text::front;
 
 // Half-cycles enough for sixteen stations to be DONE: 134 for each.
 const LONGEST: usize = 2144;
@@ -154,15 +155,8 @@ fn run(page: &mut [u8; 65536], at: usize, start: [Station; 16], n: usize, fixed:
     next
 }
 
-// Writes the first n bytes of a text.
-fn write_front(text: &[u8], n: usize) {
-    if n <= text.len() {
-        io::write_all(STDOUT_FILENO, &text[..n]);
-    }
-}
-
 fn write_page(page: &[u8; 65536], n: usize) {
-    write_front(page, n);
+    io::write_all(STDOUT_FILENO, front(page, n));
 }
 
 // What the rows and their marks mean.

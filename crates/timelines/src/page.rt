@@ -1,5 +1,8 @@
 // A page of text that may be written in any order, and drawings on it. A row of a drawing has a label of eleven, a hundred marks and
 // a line end.
+use text::Text;
+use text::decimal;
+use text::front;
 ghost use Prim.Native.Nat.{_≤_};
 
 // One byte at a place of the page; past its end, none.
@@ -23,10 +26,14 @@ pub(crate) fn put_text(page: &mut [u8; 65536], at: usize, text: &[u8]) -> usize 
     to
 }
 
+// The same for a text that was handed back by value.
+pub(crate) fn put_short(page: &mut [u8; 65536], at: usize, short: Text) -> usize {
+    let bytes = short.bytes;
+    put_text(page, at, front(&bytes, short.length))
+}
+
 pub(crate) fn put_number(page: &mut [u8; 65536], at: usize, n: usize) -> usize {
-    let mut digits = [0u8; 20];
-    let k = io::decimal(n as u64, &mut digits);
-    put_text(page, at, &digits[..k])
+    put_short(page, at, decimal(n as u64))
 }
 
 // Where a row of a drawing begins.

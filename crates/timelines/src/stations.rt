@@ -1,10 +1,10 @@
 // The stations of the runs, with their messages, and the draws that each call gets.
 use crate::page::put_number;
+use crate::page::put_short;
 use crate::page::put_station_name;
 use crate::page::put_text;
 use message::Function;
 use message::Message;
-use message::codes::name_of;
 use station::Held;
 use station::Station;
 
@@ -143,63 +143,9 @@ pub(crate) fn sixteen() -> [Station; 16] {
     slots
 }
 
-// A house by its letter.
-fn put_house(page: &mut [u8; 65536], at: usize, house: u8) -> usize {
-    let letter = [b'A' + house % 16];
-    put_text(page, at, &letter)
-}
-
-// A function by its name, which is filled up with 0.
-fn put_name(page: &mut [u8; 65536], at: usize, function: Function) -> usize {
-    let name = name_of(function);
-    let mut to = at;
-    let mut i: usize = 0;
-    while i < 16 {
-        if name[i] != 0 {
-            let letter = [name[i]];
-            to = put_text(page, to, &letter);
-        }
-        i += 1;
-    }
-    to
-}
-
-// A byte by two hexadecimal digits.
-fn put_byte(page: &mut [u8; 65536], at: usize, byte: u8) -> usize {
-    let mut digits = [0u8; 16];
-    let k = io::hex(byte as u64, 2, &mut digits);
-    put_text(page, at, &digits[..k])
-}
-
-// A message in words.
+// A message, its fields parted by spaces.
 pub(crate) fn put_message(page: &mut [u8; 65536], at: usize, m: Message) -> usize {
-    match m {
-        Message::Address { house, unit } => {
-            let mut to = put_text(page, at, b"address ");
-            to = put_house(page, to, house);
-            put_number(page, to, unit as usize + 1)
-        }
-        Message::Function { house, function } => {
-            let mut to = put_text(page, at, b"function ");
-            to = put_house(page, to, house);
-            to = put_text(page, to, b" ");
-            put_name(page, to, function)
-        }
-        Message::Extended {
-            house,
-            unit,
-            data,
-            command,
-        } => {
-            let mut to = put_text(page, at, b"extended ");
-            to = put_house(page, to, house);
-            to = put_number(page, to, unit as usize + 1);
-            to = put_text(page, to, b" ");
-            to = put_byte(page, to, data);
-            to = put_text(page, to, b" ");
-            put_byte(page, to, command)
-        }
-    }
+    put_short(page, at, text::message(m, b' '))
 }
 
 // One station of the list that stands before a run: its number, its message and its wait.

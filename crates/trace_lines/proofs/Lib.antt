@@ -1,3 +1,3 @@
-pub mod PutLaws
 pub mod LineLaws
 pub mod TraceLaws
+pub mod RunLaws

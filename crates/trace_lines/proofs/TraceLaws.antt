@@ -1,34 +1,38 @@
 -- Laws of the trace of a list of bytes.
 --
+--     by-test                           what follows from a test, whichever way it comes out
 --     half-taken, byte-skipped, byte-refused     what a byte prints, and where the trace then stands
 --     trace-append, progress-append     the trace of two lists, one after the other
 --     trace-by-pieces                   a piece, and then the rest from where the trace stands
---     progress-none, progress-stopped   no byte; nothing moves a trace that has stopped
+--     progress-none, byte-stopped, progress-stopped     no byte; nothing moves a trace that has stopped
+--     still-going                       a trace that has not stopped had not stopped before
 --     taken-none, taken-stopped, taken-full, taken-more     how many bytes of a piece are taken
 --     taken-at-most, taken-some         no more than there are, and at least one
+--     piece-fits, traced-fits           what they print fits into the buffer
 --     Going, going-starts, going-on, going-ends     the trace of a piece, byte after byte
 --     piece-taken                       the rest of a piece, from where its beginning leads
---     follows-none, follows-then        no further bytes; some, and then others
 use mathlib.Core.Path.{_≡_, refl, sym, ap, _∙_}
-use mathlib.Core.Bool.{Bool, true, false, _&&_, not}
+use mathlib.Core.Bool.{Bool, true, false, false≢true, _&&_, not, and-eq-true-iff}
 use mathlib.Core.List.{List, [], _∷_, _++_, append-assoc, append-nil}
 use Prim.Native.Nat.{ℕ, suc, _+_, _-_, _≤_, _<_}
 use native.Mathlib.Nat.{zero-add}
 use native.Mathlib.Numerals.{add-one}
 use native.Mathlib.Omega.{arith}
-use borrow.Author.Tests.{le-leb, lt-leb}
+use borrow.Author.Tests.{le-leb, lt-leb, leb-true}
 use lib.Dec.{leb, lit≤}
 use lib.ListN.{length, take, drop, getD, length-append, take-append-drop}
 use lib.Seq.{sets, take-suc, drop-cons}
 use Rattle.ground.specs.Choice.{pick}
 use Rattle.receiver.specs.Receivers.{stepOf}
-use Rattle.trace_lines.specs.Lines.{lineText, eventText, Put, LAST}
-use Rattle.trace_lines.specs.Trace.{isHalf, isSkipped, printed, halfAfter, byteAfter, traceFrom, progressAfter, Follows}
+use Rattle.text.specs.Texts.{Put}
+use Rattle.trace_lines.specs.Lines.{lineText, eventText, SIZE, LAST}
+use Rattle.trace_lines.specs.Trace.{isHalf, isSkipped, printed, halfAfter, byteAfter, traceFrom, progressAfter}
 use Rattle.trace_lines.specs.Trace.{takenFrom, pieceText, tracedOf, tracedBuffer}
 use Rattle.trace_lines.specs.declared.Line.the-variants.{BadByte}
 use Rattle.trace_lines.specs.declared.Progress.{Progress}
 use Rattle.trace_lines.specs.declared.Traced.{Traced}
 use Rattle.ground.proofs.Lists.{sets-append}
+use Rattle.trace_lines.proofs.LineLaws.{lines-fit}
 
 -- ---- one byte
 
@@ -37,6 +41,10 @@ picked-true t x y e = rw e
 
 picked-false : {A : Type 0} (t : Bool) (x y : A) → t ≡ false → pick t x y ≡ y
 picked-false t x y e = rw e
+
+pub by-test : {A : Type 0} (t : Bool) → (t ≡ true → A) → (t ≡ false → A) → A
+by-test true f g = f refl
+by-test false f g = g refl
 
 module _ (p : Progress) (b : ℕ) (run : p .stopped ≡ false) where
   pub half-taken : isHalf b ≡ true → (byteAfter p b ≡ halfAfter p (b - 48)) × (printed p b ≡ eventText (p .number) (stepOf (p .receiver) (b - 48) .event))
@@ -80,7 +88,7 @@ pub progress-none : (p : Progress) → progressAfter p [] ≡ p
 unfolding progressAfter
 progress-none p = refl
 
-byte-stopped : (p : Progress) (b : ℕ) → p .stopped ≡ true → byteAfter p b ≡ p
+pub byte-stopped : (p : Progress) (b : ℕ) → p .stopped ≡ true → byteAfter p b ≡ p
 unfolding byteAfter
 byte-stopped p b s = rw s
 
@@ -88,6 +96,10 @@ pub progress-stopped : (p : Progress) (s : List ℕ) → p .stopped ≡ true →
 unfolding progressAfter
 progress-stopped p [] e = refl
 progress-stopped p (b ∷ s) e = ap (λ (q : Progress). progressAfter q s) (byte-stopped p b e) ∙ progress-stopped p s e
+
+pub still-going : (p : Progress) (s : List ℕ) → progressAfter p s .stopped ≡ false → p .stopped ≡ false
+still-going p s run =
+    by-test (p .stopped) (λ e. absurd (false≢true (sym run ∙ ap (λ (q : Progress). q .stopped) (progress-stopped p s e) ∙ e))) (λ e. e)
 
 -- ---- how many bytes are taken
 
@@ -123,6 +135,24 @@ taken-at-most p at (b ∷ s) = go (not (p .stopped) && leb at LAST) (taken-at-mo
 pub taken-some : (p : Progress) (s : List ℕ) → p .stopped ≡ false → 0 < length s → 1 ≤ takenFrom p 0 s
 taken-some p [] run h = omega arith
 taken-some p (b ∷ s) run h = omega (arith, taken-more p 0 b s run (lit≤ tt))
+
+-- what is printed from a place on ends within the buffer: each line begins where a line may
+fits-from : (p : Progress) (at : ℕ) (s : List ℕ) → at ≤ SIZE → at + length (traceFrom p (take (takenFrom p at s) s)) ≤ SIZE
+unfolding takenFrom traceFrom
+fits-from p at [] h = omega arith
+fits-from p at (b ∷ s) h = by-test (not (p .stopped) && leb at LAST)
+    (λ e. let room : at ≤ LAST = leb-true at LAST (and-eq-true-iff (not (p .stopped)) (leb at LAST) .0 e .1) in
+    let line : at + length (printed p b) ≤ SIZE = omega (arith, lines-fit p b) in
+    simp (e, length-append) (omega (arith, fits-from (byteAfter p b) (at + length (printed p b)) s line)))
+    (λ e. simp e (omega arith))
+
+pub piece-fits : (p : Progress) (s : List ℕ) → length (pieceText p s) ≤ SIZE
+unfolding pieceText
+piece-fits p s = omega (arith, fits-from p 0 s (lit≤ tt))
+
+pub traced-fits : (p : Progress) (s : List ℕ) (t : Traced) → t ≡ tracedOf p s → t .length ≤ SIZE
+unfolding tracedOf
+traced-fits p s t e = omega (arith, ap (λ (x : Traced). x .length) e, piece-fits p s)
 
 -- ---- byte after byte
 
@@ -192,7 +222,9 @@ module _ {input out₀ : List ℕ} {p : Progress} {out : List ℕ} {q : Progress
 
 -- the rest of a piece of which some bytes are taken
 pub piece-taken : (p : Progress) (s : List ℕ) (t : Traced) → t ≡ tracedOf p s
-    → (t .taken ≡ takenFrom p 0 s) × (progressAfter (t .progress) (drop (t .taken) s) ≡ progressAfter p s)
+    → (t .taken ≡ takenFrom p 0 s)
+    × (progressAfter (t .progress) (drop (t .taken) s) ≡ progressAfter p s)
+    × (t .progress .stopped ≡ false → p .stopped ≡ false)
 unfolding tracedOf
 piece-taken p s t e =
     let k = takenFrom p 0 s in (
@@ -200,15 +232,5 @@ piece-taken p s t e =
       ap (λ (x : Traced). progressAfter (x .progress) (drop (x .taken) s)) e
           ∙ sym (progress-append p (take k s) (drop k s))
           ∙ ap (progressAfter p) (take-append-drop k s),
+      λ run. still-going p (take k s) (ap (λ (x : Traced). x .progress .stopped) (sym e) ∙ run),
     )
-
-pub follows-none : (p : Progress) → Follows p p
-follows-none p = record { input = []; stands = sym (progress-none p) }
-
-pub follows-then : {p q r : Progress} → Follows p q → Follows q r → Follows p r
-follows-then {p} {q} {r} f g =
-    record {
-      input = f .input ++ g .input;
-      stands =
-          g .stands ∙ ap (λ (x : Progress). progressAfter x (g .input)) (f .stands) ∙ sym (progress-append p (f .input) (g .input));
-    }

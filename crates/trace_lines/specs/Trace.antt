@@ -1,6 +1,5 @@
 -- The trace of an input (01, 'Line examples'): which bytes it prints, byte after byte.
-use Prim.Native.Nat.{ℕ, zero, suc, _+_, _-_}
-use mathlib.Core.Path.{_≡_}
+use Prim.Native.Nat.{ℕ, zero, suc, _+_, _-_, _≤_}
 use mathlib.Core.Bool.{Bool, true, false, _&&_, _||_, not}
 use mathlib.Core.List.{List, [], _∷_, _++_}
 use lib.Dec.{leb, eqb}
@@ -8,7 +7,7 @@ use lib.ListN.{length, take}
 use lib.Seq.{sets}
 use Rattle.ground.specs.Choice.{pick}
 use Rattle.receiver.specs.Receivers.{freshReceiver, stepOf}
-use Rattle.trace_lines.specs.Lines.{lineText, eventText, LAST}
+use Rattle.trace_lines.specs.Lines.{lineText, eventText, LONGEST, LAST}
 use Rattle.trace_lines.specs.declared.Line.the-variants.{BadByte}
 use Rattle.trace_lines.specs.declared.Progress.{Progress}
 use Rattle.trace_lines.specs.declared.Traced.{Traced}
@@ -17,7 +16,7 @@ use Rattle.trace_lines.specs.declared.Traced.{Traced}
 abbrev pub traceStart : Progress
 traceStart = record { receiver = freshReceiver; number = 1; stopped = false }
 
--- the greatest number that a half-cycle has; the trace ends after it
+-- the greatest number that a half-cycle has, and that reads are counted to; the trace ends after it
 abbrev pub GREATEST : ℕ
 GREATEST = 18446744073709551615
 
@@ -86,9 +85,8 @@ tracedOf p input =
 unfoldable pub tracedBuffer : Progress → List ℕ → List ℕ → List ℕ
 tracedBuffer p input out = sets out 0 (pieceText p input)
 
--- ---- the program
+-- ---- what holds of them: proofs/LineLaws.antt
 
--- where a trace stands after some further bytes: those that the program read, which no contract can name
-pub record Follows (p q : Progress) : Type 0 where
-  pub input : List ℕ
-  pub stands : q ≡ progressAfter p input
+-- no line is longer than 64 bytes: one that begins no later than at the last place ends within the buffer
+abbrev pub LinesFit : Type 0
+LinesFit = (p : Progress) (b : ℕ) → length (printed p b) ≤ LONGEST

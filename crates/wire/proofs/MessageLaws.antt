@@ -1,7 +1,10 @@
 -- Laws of messages as five numbers and five bytes.
 --
 --     message-number        when reading refuses, it is by 2
+--     message-length        a message has five bytes
 --     messages-read-back    MessagesReadBack
+--     kept-reported         where five bytes keep nothing that is read, it is refused by 6
+--     kept-read-back        KeptReadBack
 use mathlib.Core.Path.{_≡_, refl, sym, ap, _∙_}
 use mathlib.Core.Bool.{Bool, true, false, _&&_, and-eq-true-iff}
 use mathlib.Core.List.{[], _∷_}
@@ -10,6 +13,7 @@ use native.Mathlib.Decide.{ℕ-discrete}
 use native.Mathlib.Omega.{arith}
 use borrow.Author.Tests.{eqb-true, eq-eqb, ne-eqb}
 use lib.Dec.{eqb}
+use lib.ListN.{length}
 use Rattle.ground.specs.Choice.{pick}
 use Rattle.ground.specs.Refusals.{judged, numberGiven}
 use Rattle.ground.specs.declared.Refusal.the-variants as refusal
@@ -23,7 +27,10 @@ use Rattle.message.proofs.CodeLaws.{codes-read-back}
 use Rattle.wire.specs.Messages.{takenMessage, functionFrom, messageFrom, messageIn, messageBytes}
 use Rattle.wire.specs.Messages.{asWritten, MessagesReadBack, messageReport, saysMessage, messageCauses}
 use Rattle.wire.specs.declared.MessageRead.{MessageRead}
+use Rattle.wire.specs.Messages.{noneBytes, keptAs, keptFrom, keptIn, isKept, keptCauses, keptReport, KeptReadBack}
 use Rattle.wire.specs.declared.MessageRead.the-variants.{Message as Says, Refused}
+use Rattle.wire.specs.declared.KeptRead.{KeptRead}
+use Rattle.wire.specs.declared.KeptRead.the-variants.{Nothing, Message as Keeps, Refused as NotKept}
 
 -- ---- what numbers say, by their kind
 
@@ -45,7 +52,6 @@ kind-of k h t d c = go (ℕ-discrete k 1) (ℕ-discrete k 2) (ℕ-discrete k 3)
 
 -- ---- read back
 
--- a message that is taken is valid, and the one handed in
 -- by which number it is refused
 abbrev numbered : MessageRead → Type 0
 numbered x = messageReport x .number ≡ pick (saysMessage x) 0 2
@@ -72,6 +78,12 @@ message-number k h t d c = go (kind-of k h t d c)
     go (extended e) = taken-number (Extended h t d c)
     go (other a b e) = refl
 
+pub message-length : (m : Message) → length (messageBytes m) ≡ 5
+message-length (Address h u) = refl
+message-length (Command h f) = refl
+message-length (Extended h u d c) = refl
+
+-- a message that is taken is valid, and the one handed in
 taken-back : (m g : Message) → takenMessage m ≡ Says g → (m ≡ g) × (messageOk m ≡ true)
 unfolding takenMessage judged
 taken-back m g e = go (messageOk m) e
@@ -124,3 +136,67 @@ messages-read-back = record {
     back (Address h u) ok = rw ok
     back (Command h f) ok = ap (functionFrom h) (codes-read-back .function-of-code f) ∙ rw ok
     back (Extended h u d c) ok = rw ok
+
+-- ---- a message or none, kept
+
+module _ (k h t d c : ℕ) where
+  -- all five are 0
+  abbrev allZero : Bool
+  allZero = eqb k 0 && eqb h 0 && eqb t 0 && (eqb d 0 && eqb c 0)
+
+  -- the two tests, and what the numbers say
+  abbrev kept : Bool → Bool → MessageRead → KeptRead
+  kept none written x = pick none Nothing (pick written (keptAs x) (NotKept refusal.State))
+
+  pub kept-reported : {o : KeptRead} → o ≡ keptFrom k h t d c
+      → (o ≡ keptFrom k h t d c) × (keptReport o .number ≡ numberGiven (keptCauses k h t d c))
+  unfolding keptFrom judged
+  kept-reported e =
+      (e, ap (λ (x : KeptRead). keptReport x .number) e ∙ go allZero (asWritten k d c) (messageFrom k h t d c))
+    where
+      go : (none written : Bool) (x : MessageRead) → keptReport (kept none written x) .number ≡ pick (isKept (kept none written x)) 0 6
+      go true written x = refl
+      go false true (Says m) = refl
+      go false true (Refused why) = refl
+      go false false x = refl
+
+  zeros : allZero ≡ true → k ∷ h ∷ t ∷ d ∷ c ∷ [] ≡ noneBytes
+  zeros e =
+      let all = and-eq-true-iff (eqb k 0 && eqb h 0 && eqb t 0) (eqb d 0 && eqb c 0) .0 e in
+      let first = and-eq-true-iff (eqb k 0 && eqb h 0) (eqb t 0) .0 (all .0) in
+      let two = and-eq-true-iff (eqb k 0) (eqb h 0) .0 (first .0) in
+      let ends = and-eq-true-iff (eqb d 0) (eqb c 0) .0 (all .1) in
+      rw (eqb-true k 0 (two .0), eqb-true h 0 (two .1), eqb-true t 0 (first .1), eqb-true d 0 (ends .0), eqb-true c 0 (ends .1))
+
+  none-kept : keptFrom k h t d c ≡ Nothing → k ∷ h ∷ t ∷ d ∷ c ∷ [] ≡ noneBytes
+  unfolding keptFrom
+  none-kept e = go allZero (asWritten k d c) (messageFrom k h t d c) refl e
+    where
+      go : (none written : Bool) (x : MessageRead) → allZero ≡ none → kept none written x ≡ Nothing → k ∷ h ∷ t ∷ d ∷ c ∷ [] ≡ noneBytes
+      go true written x z e′ = zeros z
+      go false true (Says m) z e′ = cc
+      go false true (Refused why) z e′ = cc
+      go false false x z e′ = cc
+
+  message-kept : (m : Message) → keptFrom k h t d c ≡ Keeps m → (messageOk m ≡ true) × (k ∷ h ∷ t ∷ d ∷ c ∷ [] ≡ messageBytes m)
+  unfolding keptFrom
+  message-kept m e = go allZero (asWritten k d c) (messageFrom k h t d c) refl refl e
+    where
+      go : (none written : Bool) (x : MessageRead) → asWritten k d c ≡ written → messageFrom k h t d c ≡ x → kept none written x ≡ Keeps m
+          → (messageOk m ≡ true) × (k ∷ h ∷ t ∷ d ∷ c ∷ [] ≡ messageBytes m)
+      go true written x w s e′ = (cc, cc)
+      go false true (Says g) w s e′ =
+          let same : g ≡ m = cc in
+          let is = s ∙ ap Says same in
+          (messages-read-back .valid-message k h t d c m is, sym (messages-read-back .bytes-of-message k h t d c m w is))
+      go false true (Refused why) w s e′ = (cc, cc)
+      go false false x w s e′ = (cc, cc)
+
+pub kept-read-back : KeptReadBack
+unfolding keptFrom
+kept-read-back = record { none = refl; message = back; bytes-of-none = none-kept; bytes-of-message = message-kept }
+  where
+    back : (m : Message) → messageOk m ≡ true → keptIn (messageBytes m) ≡ Keeps m
+    back (Address h u) ok = ap keptAs (messages-read-back .message-of-bytes (Address h u) ok)
+    back (Command h f) ok = ap keptAs (messages-read-back .message-of-bytes (Command h f) ok)
+    back (Extended h u d c) ok = ap keptAs (messages-read-back .message-of-bytes (Extended h u d c) ok)

@@ -16,6 +16,9 @@ use Rattle.message.specs.declared.Message.{Message}
 use Rattle.message.specs.declared.Message.the-variants.{Address, Function as Command, Extended}
 use Rattle.wire.specs.declared.MessageRead.{MessageRead}
 use Rattle.wire.specs.declared.MessageRead.the-variants.{Message as Says, Refused}
+use Rattle.wire.specs.declared.Five.{Five}
+use Rattle.wire.specs.declared.KeptRead.{KeptRead}
+use Rattle.wire.specs.declared.KeptRead.the-variants.{Nothing, Message as Keeps, Refused as NotKept}
 
 -- ---- five numbers
 
@@ -61,9 +64,50 @@ messageBytes (Address h u) = 1 ∷ h ∷ u ∷ 0 ∷ 0 ∷ []
 messageBytes (Command h f) = 2 ∷ h ∷ functionCode f ∷ 0 ∷ 0 ∷ []
 messageBytes (Extended h u d c) = 3 ∷ h ∷ u ∷ d ∷ c ∷ []
 
+-- five numbers in their order
+abbrev pub listed : Five → List ℕ
+listed f = f .kind ∷ f .house ∷ f .third ∷ f .data ∷ f .command ∷ []
+
 -- whether data and command are as those bytes have them, by the kind
 abbrev pub asWritten : ℕ → ℕ → ℕ → Bool
 asWritten kind «data» command = eqb kind 3 || (eqb «data» 0 && eqb command 0)
+
+-- ---- a message or none, kept in five bytes
+
+-- five 0 for none
+abbrev pub noneBytes : List ℕ
+noneBytes = 0 ∷ 0 ∷ 0 ∷ 0 ∷ 0 ∷ []
+
+-- what five bytes keep, by the message that they say. 6: "house or unit above 15", or bytes that are no message's
+abbrev pub keptAs : MessageRead → KeptRead
+keptAs (Says m) = Keeps m
+keptAs (Refused why) = NotKept refusal.State
+
+-- none where all five are 0, else the message that they say; data and command are 0 for kinds 1 and 2
+unfoldable pub keptFrom : ℕ → ℕ → ℕ → ℕ → ℕ → KeptRead
+keptFrom kind house third «data» command =
+    pick (eqb kind 0 && eqb house 0 && eqb third 0 && (eqb «data» 0 && eqb command 0)) Nothing
+    (pick (asWritten kind «data» command) (keptAs (messageFrom kind house third «data» command))
+    (NotKept refusal.State))
+
+-- what a list's first five bytes keep
+abbrev pub keptIn : List ℕ → KeptRead
+keptIn bytes = keptFrom (getD bytes 0 0) (getD bytes 1 0) (getD bytes 2 0) (getD bytes 3 0) (getD bytes 4 0)
+
+abbrev pub isKept : KeptRead → Bool
+isKept Nothing = true
+isKept (Keeps m) = true
+isKept (NotKept why) = false
+
+-- 6 where they keep neither
+abbrev pub keptCauses : ℕ → ℕ → ℕ → ℕ → ℕ → List Cause
+keptCauses kind house third «data» command = unless (isKept (keptFrom kind house third «data» command)) refusal.State ∷ []
+
+-- 01's number and value for each answer
+abbrev pub keptReport : KeptRead → Report Message
+keptReport Nothing = reports []
+keptReport (Keeps m) = reports (m ∷ [])
+keptReport (NotKept why) = refuses why
 
 -- ---- what holds of them: proofs/MessageLaws.antt
 
@@ -75,3 +119,12 @@ pub record MessagesReadBack : Type 0 where
   -- what is read is a message of a house and unit 0 to 15
   pub valid-message : (kind house third «data» command : ℕ) (m : Message) → messageFrom kind house third «data» command ≡ Says m
       → messageOk m ≡ true
+
+-- none and a message are read back from the bytes that keep them; and bytes that keep either are its own
+pub record KeptReadBack : Type 0 where
+  pub none : keptIn noneBytes ≡ Nothing
+  pub message : (m : Message) → messageOk m ≡ true → keptIn (messageBytes m) ≡ Keeps m
+  pub bytes-of-none : (kind house third «data» command : ℕ) → keptFrom kind house third «data» command ≡ Nothing
+      → kind ∷ house ∷ third ∷ «data» ∷ command ∷ [] ≡ noneBytes
+  pub bytes-of-message : (kind house third «data» command : ℕ) (m : Message) → keptFrom kind house third «data» command ≡ Keeps m
+      → (messageOk m ≡ true) × (kind ∷ house ∷ third ∷ «data» ∷ command ∷ [] ≡ messageBytes m)

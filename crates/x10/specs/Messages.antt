@@ -1,4 +1,4 @@
--- `x10_burst` and `x10_apply`: a message in five numbers, handed on to the routine, whose causes alone refuse it.
+-- `x10_burst`, `x10_apply` and `x10_station_load`: a message in five numbers, handed on to the routine, whose causes alone refuse it.
 use mathlib.Core.Path.{_≡_}
 use mathlib.Core.Bool.{false}
 use Rattle.message.specs.Messages.{messageOk}

@@ -32,6 +32,7 @@ ghost use Rattle.room.specs.Rooms.{roomOf, roomAfter, applyAnswer, tallied};
 ghost use Rattle.room.specs.Mains.{lentTo, mainsAnswer, mainsAfter, lentAfter};
 ghost use Rattle.room.specs.Routes.{radioAnswer, radioAfter};
 ghost use Rattle.bench_run.specs.BenchRuns.{lent, runAnswer, linesAfter, marksAfter};
+ghost use Rattle.station_lent.specs.StationBytes.{emptyAnswer, emptyAfter, loadedAnswer, loadedAfter, sentAnswer, turnedAnswer, turnedAfter};
 ghost use Rattle.x10.specs.Commands.{commandFrom, commandBytes};
 ghost use Rattle.x10.specs.Messages.{noMessage, handedOn};
 ghost use Rattle.x10.specs.Radio.{codeAnswer, codeAfter, commandAnswer, commandAfter};
@@ -194,6 +195,52 @@ pub extern "C" fn x10_mains_route(
         ≡ lentAfter (lentTo (now (state .entry)) (now (halves .entry)) (now (events .entry)) (now (answers .entry))) (roomOf (now (table .entry))) ⌝ }
 {
     pack(tally(mains_route(state, halves, table, events, answers)))
+}
+
+// Makes eight lent bytes an empty station. Refused 6.
+#[no_mangle]
+pub extern "C" fn x10_station_empty(state: &mut [u8]) -> u64
+    ensures answer { λ r. ⌜ r ≡ packed (emptyAnswer (now (state .entry))) ⌝ }
+    ensures state { λ _. ⌜ now (state .exit) ≡ emptyAfter (now (state .entry)) ⌝ }
+{
+    pack(station_lent::empty(state))
+}
+
+// Gives the station in eight lent bytes a message and a wait. Refused 2, 6, 7, 8.
+#[no_mangle]
+pub extern "C" fn x10_station_load(
+    state: &mut [u8],
+    kind: u8,
+    house: u8,
+    third: u8,
+    data: u8,
+    command: u8,
+    draw: u8,
+) -> u64
+    ensures answer { λ r. ⌜ r ≡ packed (loadedAnswer (now (state .entry)) (handedOn (messageFrom kind house third «data» command)) draw) ⌝ }
+    ensures state { λ _. ⌜ now (state .exit) ≡ loadedAfter (now (state .entry)) (handedOn (messageFrom kind house third «data» command)) draw ⌝ }
+{
+    match message_from(kind, house, third, data, command) {
+        MessageRead::Message(m) => pack(station_lent::load(state, m, draw)),
+        MessageRead::Refused(_) => pack(station_lent::load(state, no_message(), draw)),
+    }
+}
+
+// What the station in eight lent bytes sends in this half-cycle: the count is 0 or 1. Refused 6.
+#[no_mangle]
+pub extern "C" fn x10_station_sends(state: &[u8]) -> u64
+    ensures answer { λ r. ⌜ r ≡ packed (sentAnswer (now (state .entry))) ⌝ }
+{
+    pack(station_lent::sends(state))
+}
+
+// One half-cycle of the station in eight lent bytes, with what it heard and a draw: the count is 1 where it says DONE. Refused 5, 6, 7, 15.
+#[no_mangle]
+pub extern "C" fn x10_station_half_cycle(state: &mut [u8], heard: u8, draw: u8) -> u64
+    ensures answer { λ r. ⌜ r ≡ packed (turnedAnswer (now (state .entry)) heard draw) ⌝ }
+    ensures state { λ _. ⌜ now (state .exit) ≡ turnedAfter (now (state .entry)) heard draw ⌝ }
+{
+    pack(station_lent::half_cycle(state, heard, draw))
 }
 
 // Loads a station for each draw of loads, and calls the bench once for each byte of lines; the count is of the calls that were not

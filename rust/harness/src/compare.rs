@@ -8,6 +8,7 @@ mod burst;
 mod mains;
 mod radio;
 mod receive;
+mod station;
 mod table;
 
 use crate::inputs::TABLE;
@@ -33,7 +34,10 @@ pub fn all(seed: u64, size: usize) -> Vec<Tally> {
         mains::mains_route,
     ];
     let compare = |(i, routine): (usize, &Compared)| routine(&mut Rng::new(seed ^ (i as u64) << 56), size);
-    routines.iter().enumerate().map(compare).collect()
+    let mut tallies: Vec<Tally> = routines.iter().enumerate().map(compare).collect();
+    // One after the other in a station's life, so they are compared together.
+    tallies.extend(station::stations(&mut Rng::new(seed ^ (routines.len() as u64) << 56), size));
+    tallies
 }
 
 /// A fresh receiver, by the model.

@@ -1,9 +1,9 @@
-//! Inputs for the comparison and for the timing: messages, lines, receivers, tables and benches,
+//! Inputs for the comparison and for the timing: messages, lines, receivers, stations, tables and benches,
 //! valid and damaged.
 
 use crate::rng::Rng;
 use x10_model::burst::{frame_len, write_frame};
-use x10_model::bytes::{self, MESSAGE, RECEIVER};
+use x10_model::bytes::{self, MESSAGE, RECEIVER, STATION};
 use x10_model::message::{Function, Word};
 use x10_model::table;
 
@@ -162,6 +162,53 @@ fn send(rng: &mut Rng, numbers: [u8; MESSAGE], line: &mut Vec<u8>) {
         line.resize(frame + frame_len(word), 0);
         write_frame(word, &mut line[frame..]);
     }
+}
+
+pub fn draw(rng: &mut Rng) -> u8 {
+    8 + rng.below(3) as u8
+}
+
+/// A draw, or now and then a byte that may be none.
+pub fn draw_or_not(rng: &mut Rng) -> u8 {
+    if rng.one_in(8) {
+        edge(rng)
+    } else {
+        draw(rng)
+    }
+}
+
+/// An empty station.
+pub const EMPTY_STATION: [u8; STATION] = [0, 0, 0, 0, 0, 8, 0, 0];
+
+/// Eight bytes: a station, empty, waiting or sending, or one with a byte or two changed.
+pub fn station(rng: &mut Rng) -> [u8; STATION] {
+    let mut station = EMPTY_STATION;
+    if !rng.one_in(5) {
+        let numbers = written(rng);
+        station[..MESSAGE].copy_from_slice(&numbers);
+        let wait = draw(rng);
+        station[5] = wait;
+        if rng.one_in(3) {
+            station[6] = rng.below(usize::from(wait) + 1) as u8;
+        } else {
+            let frame = if numbers[0] == 3 { 62 } else { 22 };
+            station[6] = wait;
+            // Around where the frames begin and end, or anywhere.
+            station[7] = match rng.below(4) {
+                0 => 2 * frame - 1,
+                1 => rng.below(5) as u8,
+                2 => frame - 2 + rng.below(6) as u8,
+                _ => rng.below(2 * usize::from(frame)) as u8,
+            };
+        }
+    }
+    if rng.one_in(3) {
+        for _ in 0..1 + rng.below(2) {
+            let place = rng.below(STATION);
+            station[place] = if rng.one_in(6) { rng.pick(&[43, 44, 45, 123, 124, 125]) } else { edge(rng) };
+        }
+    }
+    station
 }
 
 /// The five bytes of a receiver's message given before: none, a message, or neither.
@@ -329,7 +376,6 @@ pub fn bench(rng: &mut Rng, n: usize, calls: usize, bad: bool, bench: &mut Bench
         }
         bench.messages.extend(numbers);
     }
-    let draw = |rng: &mut Rng| 8 + rng.below(3) as u8;
     bench.loads.clear();
     bench.loads.extend((0..n).map(|_| draw(rng)));
     bench.draws.clear();

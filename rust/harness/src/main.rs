@@ -67,7 +67,6 @@ fn compare(seed: u64, size: usize) -> bool {
     let missed: Vec<String> = tallies.iter().flat_map(|tally| tally.missed()).collect();
     if missed.is_empty() {
         println!("met: every number that a routine can answer, every event and every situation");
-        println!("     (8 and 15 are answers of single stations, which the library does not export)");
     } else {
         println!("NOT MET: {}", missed.join(", "));
     }

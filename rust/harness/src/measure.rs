@@ -9,7 +9,7 @@ use crate::inputs::{self, TABLE};
 use crate::rng::Rng;
 use std::hint::black_box;
 use std::time::Instant;
-use x10_model::bytes::{self, ANSWER, EVENT, RECEIVER};
+use x10_model::bytes::{self, ANSWER, EVENT, RECEIVER, STATION};
 
 /// Rounds that are timed for each row where nothing else is asked for.
 pub const ROUNDS: usize = 401;
@@ -160,6 +160,7 @@ pub fn all(seed: u64, rounds: usize, only: Option<usize>) -> Vec<Row> {
     radio_route(rng, &table, &mut rows);
     mains_route(&table, &sent_line(rng, 250), 1, "256 modules, one half-cycle a call", &mut rows);
     mains_route(&table, &line, line.len(), "256 modules, slice of bursts, a half-cycle", &mut rows);
+    stations(rng, &mut rows);
     rows.rows
 }
 
@@ -354,4 +355,41 @@ fn mains_route(start: &[u8], line: &[u8], slice: usize, timed: &'static str, row
             }
         }
     );
+}
+
+/// Stations alone on the line: each state from load to DONE, and what is sent in it.
+fn lives(rng: &mut Rng) -> Vec<Vec<([u8; STATION], u8)>> {
+    let life = |rng: &mut Rng| {
+        let mut station = [0; STATION];
+        bytes::station_empty(&mut station).expect("eight bytes");
+        bytes::station_load(&mut station, inputs::message(rng), inputs::draw(rng)).expect("an empty station");
+        let mut states = Vec::new();
+        loop {
+            let sent = bytes::station_sends(&station).expect("a station") as u8;
+            states.push((station, sent));
+            if bytes::station_half_cycle(&mut station, sent, 8) == Ok(1) {
+                return states;
+            }
+        }
+    };
+    (0..16).map(|_| life(rng)).collect()
+}
+
+fn stations(rng: &mut Rng, rows: &mut Rows) {
+    let lives = lives(rng);
+    let calls = lives.iter().map(Vec::len).sum();
+    let timed = "whole lives of wait and burst, a call";
+    row!(rows, "station_sends", timed, calls, (), |_| {}, |_none, lib| {
+        for (station, _) in black_box(&lives).iter().flatten() {
+            _ = black_box(&lib::station_sends(station));
+        }
+    });
+    row!(rows, "station_half_cycle", timed, calls, [0; STATION], |_| {}, |station, lib| {
+        for life in black_box(&lives) {
+            *station = life[0].0;
+            for &(_, heard) in life {
+                _ = black_box(&lib::station_half_cycle(black_box(station), heard, 8));
+            }
+        }
+    });
 }

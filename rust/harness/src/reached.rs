@@ -1,7 +1,7 @@
 //! Situations that a comparison must reach, and which case is in which. Each list has what its
 //! function gives; what the model gave back decides where the input alone does not.
 
-use x10_model::bytes::{MESSAGE, RECEIVER};
+use x10_model::bytes::{MESSAGE, RECEIVER, STATION};
 use x10_model::message::Refusal;
 
 /// A slice's length against the one that is asked for.
@@ -137,9 +137,14 @@ pub fn impossible(state: &[u8]) -> Option<&'static str> {
         ((23..=62).contains(&at) && bits >> ((at - 23) / 2) & 31 != 15, "pairs alone"),
         (house > 15 || kind != 2 && third > 15, "house or unit alone"),
     ];
-    let mut causes = causes.into_iter().filter(|(holds, _)| *holds);
+    only(&causes)
+}
+
+/// The cause that holds, where it is the only one.
+fn only(causes: &[(bool, &'static str)]) -> Option<&'static str> {
+    let mut causes = causes.iter().filter(|(holds, _)| *holds);
     let (_, cause) = causes.next()?;
-    causes.next().is_none().then_some(cause)
+    causes.next().is_none().then_some(*cause)
 }
 
 /// What came among the half-cycles of one slice of the mains route.
@@ -380,7 +385,7 @@ pub const DRAWS: [&str; 7] = [
 ];
 
 pub fn draws(loads: &[u8], len: usize, asked: usize, marks_short: bool) -> &'static str {
-    if loads.iter().any(|draw| !(8..=10).contains(draw)) {
+    if loads.iter().copied().any(bad_draw) {
         return DRAWS[0];
     }
     let names = if marks_short { &DRAWS[4..] } else { &DRAWS[1..4] };
@@ -394,3 +399,234 @@ pub fn draws(loads: &[u8], len: usize, asked: usize, marks_short: bool) -> &'sta
 /// What came in a run of a bench.
 pub const RUNS: [&str; 5] =
     ["no call", "one DONE", "several DONE", "every station DONE", "some calls refused"];
+
+/// Why bytes are no station, or one in no state that there is.
+pub const NO_STATION: [&str; 16] = [
+    "not eight bytes",
+    "kind of no message alone",
+    "code of no function alone",
+    "data beside a short message alone",
+    "house alone",
+    "unit alone",
+    "wait below 8 alone",
+    "wait above 10 alone",
+    "count above the wait alone",
+    "place 44 alone",
+    "place 124 alone",
+    "place beyond the burst alone",
+    "place with a count below the wait alone",
+    "wait of an empty station alone",
+    "count of an empty station alone",
+    "place of an empty station alone",
+];
+
+/// None where there is more than one cause.
+pub fn no_station(station: &[u8]) -> Option<&'static str> {
+    let &[kind, house, third, data, command, wait, count, place] = station else {
+        return Some("not eight bytes");
+    };
+    let held = holds(station);
+    let short = kind == 1 || kind == 2;
+    let burst = if short { 44 } else { 124 };
+    let causes = [
+        (held && !(1..=3).contains(&kind), "kind of no message alone"),
+        (kind == 2 && matches!(third, 7 | 10..=12 | 16..), "code of no function alone"),
+        (short && [data, command] != [0; 2], "data beside a short message alone"),
+        (house > 15, "house alone"),
+        (kind != 2 && third > 15, "unit alone"),
+        (held && wait < 8, "wait below 8 alone"),
+        (held && wait > 10, "wait above 10 alone"),
+        (held && count > wait, "count above the wait alone"),
+        (short && place == 44, "place 44 alone"),
+        (held && !short && place == 124, "place 124 alone"),
+        (held && place > burst, "place beyond the burst alone"),
+        (held && place > 0 && count < wait, "place with a count below the wait alone"),
+        (!held && wait != 8, "wait of an empty station alone"),
+        (!held && count > 0, "count of an empty station alone"),
+        (!held && place > 0, "place of an empty station alone"),
+    ];
+    only(&causes)
+}
+
+/// Whether eight bytes are to hold a message, a right one or not.
+pub fn holds(station: &[u8]) -> bool {
+    station.len() == STATION && station[..MESSAGE] != [0; MESSAGE]
+}
+
+pub fn bad_draw(draw: u8) -> bool {
+    !(8..=10).contains(&draw)
+}
+
+/// Refusals of a load and of a station's half-cycle, alone and where another applies too.
+pub const LOAD_REFUSALS: [&str; 10] = [
+    "2 alone",
+    "6 alone",
+    "7 alone",
+    "8 alone",
+    "2 before 6",
+    "2 before 7",
+    "2 before 8",
+    "6 before 7",
+    "6 before 8",
+    "7 before 8",
+];
+pub const HALF_CYCLE_REFUSALS: [&str; 9] = [
+    "5 alone",
+    "6 alone",
+    "7 alone",
+    "15 alone",
+    "5 before 6",
+    "5 before 7",
+    "6 before 7",
+    "7 before 15",
+    "5 before 6 and 7",
+];
+
+/// Names a refusal that was given among those that apply.
+pub fn refusals(given: Refusal, wrong: &[Option<Refusal>], mut reach: impl FnMut(&'static str)) {
+    let also = || wrong.iter().flatten().filter(|also| **also != given);
+    if also().next().is_none() {
+        return reach(match given {
+            Refusal::Message => "2 alone",
+            Refusal::Half => "5 alone",
+            Refusal::State => "6 alone",
+            Refusal::Draw => "7 alone",
+            Refusal::Busy => "8 alone",
+            _ => "15 alone",
+        });
+    }
+    for also in also() {
+        reach(match (given, also) {
+            (Refusal::Message, Refusal::State) => "2 before 6",
+            (Refusal::Message, Refusal::Draw) => "2 before 7",
+            (Refusal::Message, _) => "2 before 8",
+            (Refusal::Half, Refusal::State) => "5 before 6",
+            (Refusal::Half, _) => "5 before 7",
+            (Refusal::State, Refusal::Draw) => "6 before 7",
+            (Refusal::State, _) => "6 before 8",
+            (_, Refusal::Busy) => "7 before 8",
+            _ => "7 before 15",
+        });
+    }
+    if given == Refusal::Half && also().count() == 2 {
+        reach("5 before 6 and 7");
+    }
+}
+
+/// What a load left: data and command that a short message does not have are 0.
+pub const LOADED: [&str; 3] = ["data and command kept", "data and command dropped", "neither to drop"];
+
+pub fn loaded(numbers: [u8; MESSAGE], after: &[u8]) -> &'static str {
+    match numbers {
+        [3, ..] => "data and command kept",
+        _ if numbers[3..] != after[3..MESSAGE] => "data and command dropped",
+        _ => "neither to drop",
+    }
+}
+
+/// What a station is about when it is asked what it sends.
+pub const SENDING: [&str; 7] = [
+    "empty station",
+    "waiting",
+    "sends 0",
+    "sends 1",
+    "sends 0 in the second frame",
+    "sends 1 in the second frame",
+    "sends the last half-cycle",
+];
+
+pub fn sending(station: &[u8], half: usize) -> &'static str {
+    let (count, wait, place) = (station[6], station[5], station[7]);
+    let frame = if station[0] == 3 { 62 } else { 22 };
+    match (holds(station), half) {
+        (false, _) => "empty station",
+        _ if count < wait => "waiting",
+        _ if place == 2 * frame - 1 => "sends the last half-cycle",
+        (_, 0) if place < frame => "sends 0",
+        (_, 1) if place < frame => "sends 1",
+        (_, 0) => "sends 0 in the second frame",
+        _ => "sends 1 in the second frame",
+    }
+}
+
+/// What a half-cycle made of a station.
+pub const HALF_CYCLES: [&str; 10] = [
+    "empty station hears 0",
+    "empty station hears 1",
+    "waits on",
+    "wait is over",
+    "wait begins anew",
+    "sends 0, hears 0",
+    "sends 1, hears 1",
+    "abort",
+    "DONE of 44",
+    "DONE of 124",
+];
+
+pub fn half_cycle(before: &[u8], sent_1: bool, heard: u8, done: bool) -> &'static str {
+    let (count, wait) = (before[6], before[5]);
+    match (holds(before), heard) {
+        (false, 0) => "empty station hears 0",
+        (false, _) => "empty station hears 1",
+        _ if done && before[0] == 3 => "DONE of 124",
+        _ if done => "DONE of 44",
+        (_, 0) if count + 1 == wait => "wait is over",
+        (_, 0) if count < wait => "waits on",
+        _ if count < wait => "wait begins anew",
+        (_, 0) => "sends 0, hears 0",
+        _ if sent_1 => "sends 1, hears 1",
+        _ => "abort",
+    }
+}
+
+/// A bad draw, by what it would be used for.
+pub const BAD_DRAWS: [&str; 6] = [
+    "bad draw of an empty station",
+    "bad draw of one that waits on",
+    "bad draw of one that sends on",
+    "bad draw of one that sent 1 and heard 0",
+    "bad draw of a wait that begins anew",
+    "bad draw of an abort",
+];
+
+pub fn draw_used(before: &[u8], sent_1: bool, heard: u8) -> &'static str {
+    let waits = before[6] < before[5];
+    match (holds(before), heard) {
+        (false, _) => "bad draw of an empty station",
+        (_, 0) if waits => "bad draw of one that waits on",
+        (_, 0) if sent_1 => "bad draw of one that sent 1 and heard 0",
+        (_, 1) if waits => "bad draw of a wait that begins anew",
+        (_, 1) if !sent_1 => "bad draw of an abort",
+        _ => "bad draw of one that sends on",
+    }
+}
+
+/// How a station came from load to DONE.
+pub const LIVES: [&str; 4] = [
+    "life to DONE at once",
+    "life to DONE, a wait begun anew",
+    "life to DONE after an abort",
+    "life to DONE after both",
+];
+
+/// A life so far.
+#[derive(Default)]
+pub struct Life {
+    waited_anew: bool,
+    aborted: bool,
+}
+
+impl Life {
+    /// A half-cycle that was not refused, with the station as it was before it.
+    pub fn next(&mut self, before: &[u8], sent_1: bool, heard: u8) {
+        if heard == 1 && !sent_1 {
+            let waits = before[6] < before[5];
+            self.waited_anew |= waits;
+            self.aborted |= !waits;
+        }
+    }
+
+    pub fn end(&self) -> &'static str {
+        LIVES[usize::from(self.waited_anew) + 2 * usize::from(self.aborted)]
+    }
+}

@@ -2,7 +2,8 @@
 //!
 //! A message is five numbers: kind (1 address, 2 function, 3 extended), house, unit or function
 //! code, data, command. A receiver is 11 bytes: past, at, bits in four bytes, highest first, and
-//! the message given before, five zeros where there is none. An event is six bytes: its code and
+//! the message given before, five zeros where there is none. A station is 8 bytes: the message that
+//! it holds, five zeros where it is empty, wait, count and place. An event is six bytes: its code and
 //! the message of a MESSAGE, else five zeros. An answer in lent memory is eight bytes, lowest first.
 //!
 //! Each gives the count, or the number by which it refuses; a refusal changes nothing that was
@@ -14,12 +15,13 @@ use crate::message::{Function, Message, Refusal};
 use crate::radio::Command;
 use crate::receiver::{Event, Receiver};
 use crate::routes;
-use crate::station::{judge_draw, Station};
+use crate::station::{judge_draw, judge_half, Station};
 use crate::table::{self, Table};
 
-/// Bytes of a message, a receiver, an event and an answer.
+/// Bytes of a message, a receiver, a station, an event and an answer.
 pub const MESSAGE: usize = 5;
 pub const RECEIVER: usize = 11;
+pub const STATION: usize = 8;
 pub const EVENT: usize = 6;
 pub const ANSWER: usize = 8;
 
@@ -61,20 +63,33 @@ fn message_bytes(message: Message) -> [u8; MESSAGE] {
     }
 }
 
-/// The receiver of 11 bytes. 6 for another length, where the message given is neither five zeros nor
-/// a message as `message_bytes` writes it, and for a receiver that `judge` refuses.
+/// The message that a receiver gave before or a station holds: None for five zeros. 6 for other bytes
+/// than `message_bytes` writes, also of a message with a house or unit above 15.
+#[inline]
+fn kept(bytes: [u8; MESSAGE]) -> Result<Option<Message>, Refusal> {
+    if bytes == NO_MESSAGE {
+        return Ok(None);
+    }
+    // A message that has no data and command has 0 there.
+    let [kind, _, _, data, command] = bytes;
+    if kind < 3 && data | command != 0 {
+        return Err(Refusal::State);
+    }
+    message(bytes).map(Some).map_err(|_| Refusal::State)
+}
+
+fn kept_bytes(message: Option<Message>) -> [u8; MESSAGE] {
+    message.map_or(NO_MESSAGE, message_bytes)
+}
+
+/// The receiver of 11 bytes. 6 for another length, and for a message or a receiver that is none.
 fn receiver(state: &[u8]) -> Result<Receiver, Refusal> {
-    let &[past, at, b3, b2, b1, b0, ref given @ ..] = state else {
+    let &[past, at, b3, b2, b1, b0, kind, house, third, data, command] = state else {
         return Err(Refusal::State);
     };
-    let given: [u8; MESSAGE] = given.try_into().map_err(|_| Refusal::State)?;
-    let given = if given == NO_MESSAGE {
-        None
-    } else {
-        let message = message(given).ok().filter(|message| message_bytes(*message) == given);
-        Some(message.ok_or(Refusal::State)?)
-    };
-    let receiver = Receiver { past, at, bits: u32::from_be_bytes([b3, b2, b1, b0]), given };
+    let bits = u32::from_be_bytes([b3, b2, b1, b0]);
+    let given = kept([kind, house, third, data, command])?;
+    let receiver = Receiver { past, at, bits, given };
     receiver.judge()?;
     Ok(receiver)
 }
@@ -84,8 +99,26 @@ fn receiver_bytes(receiver: &Receiver) -> [u8; RECEIVER] {
     state[0] = receiver.past;
     state[1] = receiver.at;
     state[2..6].copy_from_slice(&receiver.bits.to_be_bytes());
-    state[6..].copy_from_slice(&receiver.given.map_or(NO_MESSAGE, message_bytes));
+    state[6..].copy_from_slice(&kept_bytes(receiver.given));
     state
+}
+
+/// The station of 8 bytes. 6 for another length, and for a message or a station that is none.
+/// Inlined, since a station handed back is packed into one number first.
+#[inline(always)]
+fn station(bytes: &[u8]) -> Result<Station, Refusal> {
+    let &[kind, house, third, data, command, wait, count, place] = bytes else {
+        return Err(Refusal::State);
+    };
+    let message = kept([kind, house, third, data, command])?;
+    let station = Station { message, wait, count, place };
+    station.judge_numbers()?;
+    Ok(station)
+}
+
+fn station_bytes(station: &Station) -> [u8; STATION] {
+    let [kind, house, third, data, command] = kept_bytes(station.message);
+    [kind, house, third, data, command, station.wait, station.count, station.place]
 }
 
 fn write_event(event: Result<Event, Refusal>, bytes: &mut [u8; EVENT]) {
@@ -171,6 +204,47 @@ pub fn apply(table: &mut [u8], numbers: [u8; MESSAGE]) -> Result<usize, Refusal>
         return Err(Refusal::Table);
     }
     table::apply(table, message(numbers)?)
+}
+
+/// Makes the bytes an empty station; count 0. 6.
+#[inline(never)]
+pub fn station_empty(bytes: &mut [u8]) -> Result<usize, Refusal> {
+    let bytes: &mut [u8; STATION] = bytes.try_into().map_err(|_| Refusal::State)?;
+    *bytes = station_bytes(&Station::EMPTY);
+    Ok(0)
+}
+
+/// Loads a message; count 0. 2, 6, 7, 8.
+#[inline(never)]
+pub fn station_load(bytes: &mut [u8], numbers: [u8; MESSAGE], draw: u8) -> Result<usize, Refusal> {
+    let message = message(numbers)?;
+    let mut station = station(bytes)?;
+    station.take(message, draw)?;
+    bytes.copy_from_slice(&station_bytes(&station));
+    Ok(0)
+}
+
+/// What the station sends in this half-cycle, as the count. 6.
+#[inline(never)]
+pub fn station_sends(bytes: &[u8]) -> Result<usize, Refusal> {
+    Ok(usize::from(station(bytes)?.sends()))
+}
+
+/// One half-cycle with what is heard in it and a draw; count 1 where the station is DONE, else 0. 5, 6,
+/// 7, 15.
+#[inline(never)]
+pub fn station_half_cycle(bytes: &mut [u8], heard: u8, draw: u8) -> Result<usize, Refusal> {
+    // 5 comes before 6, also where the bytes hold no station.
+    judge_half(heard)?;
+    let mut station = station(bytes)?;
+    let done = station.hear(heard, draw)?;
+    if done {
+        bytes.copy_from_slice(&station_bytes(&Station::EMPTY));
+    } else {
+        // The message stays.
+        bytes[MESSAGE..].copy_from_slice(&[station.wait, station.count, station.place]);
+    }
+    Ok(usize::from(done))
 }
 
 /// Loads as many stations as there are `loads` and advances them once for each byte of `lines`;

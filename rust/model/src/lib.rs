@@ -5,8 +5,8 @@
 //! changes were made with the Rattle code known: the array of 124 for a burst, and the awaited
 //! half-cycle that goes to the hunt.
 //!
-//! For a reader of the times: a table and a receiver are judged once in a call, every station and draw
-//! at each call of a bench. Receivers, stations and tables are changed in place.
+//! For a reader of the times: a table, a receiver and a single station are judged once in a call, every
+//! station and draw at each call of a bench. Receivers, stations and tables are changed in place.
 
 pub mod bench;
 pub mod burst;

@@ -17,6 +17,15 @@ pub struct Station {
     pub place: u8,
 }
 
+/// 5 where a half-cycle is not 0 or 1.
+pub fn judge_half(half: u8) -> Result<(), Refusal> {
+    if half <= 1 {
+        Ok(())
+    } else {
+        Err(Refusal::Half)
+    }
+}
+
 /// 7 where a draw is not 8 to 10.
 pub fn judge_draw(draw: u8) -> Result<(), Refusal> {
     if DRAWS.contains(&draw) {
@@ -31,15 +40,18 @@ impl Station {
 
     /// 6 where the fields are not those of a station.
     pub fn judge(&self) -> Result<(), Refusal> {
+        if self.message.is_some_and(|message| message.judge().is_err()) {
+            return Err(Refusal::State);
+        }
+        self.judge_numbers()
+    }
+
+    /// The same where the message, if there is one, is known to be right.
+    #[inline]
+    pub fn judge_numbers(&self) -> Result<(), Refusal> {
         let ok = match self.message {
             None => *self == Station::EMPTY,
-            Some(message) => {
-                message.judge().is_ok()
-                    && DRAWS.contains(&self.wait)
-                    && self.count <= self.wait
-                    && usize::from(self.place) < burst_len(message)
-                    && (self.place == 0 || self.count == self.wait)
-            }
+            Some(message) => self.fits(message),
         };
         if ok {
             Ok(())
@@ -48,10 +60,24 @@ impl Station {
         }
     }
 
+    /// Whether wait, count and place are those of a station that holds this message.
+    #[inline]
+    fn fits(&self, message: Message) -> bool {
+        DRAWS.contains(&self.wait)
+            && self.count <= self.wait
+            && usize::from(self.place) < burst_len(message)
+            && (self.place == 0 || self.count == self.wait)
+    }
+
     /// Loads a message: refusals 2, 6, 7 and 8.
     pub fn load(&mut self, message: Message, draw: u8) -> Result<(), Refusal> {
         message.judge()?;
         self.judge()?;
+        self.take(message, draw)
+    }
+
+    /// Loads a message where `judge` lets both pass: refusals 7 and 8.
+    pub fn take(&mut self, message: Message, draw: u8) -> Result<(), Refusal> {
         judge_draw(draw)?;
         if self.message.is_some() {
             return Err(Refusal::Busy);
@@ -71,10 +97,13 @@ impl Station {
     /// One half-cycle with what is heard in it and a draw: refusals 5, 6, 7 and 15. True where the
     /// station is DONE.
     pub fn step(&mut self, heard: u8, draw: u8) -> Result<bool, Refusal> {
-        if heard > 1 {
-            return Err(Refusal::Half);
-        }
+        judge_half(heard)?;
         self.judge()?;
+        self.hear(heard, draw)
+    }
+
+    /// A step of a station that `judge` lets pass, with a half-cycle of 0 or 1: refusals 7 and 15.
+    pub fn hear(&mut self, heard: u8, draw: u8) -> Result<bool, Refusal> {
         judge_draw(draw)?;
         let sent = self.sends();
         if sent > heard {

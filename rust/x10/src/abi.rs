@@ -1,6 +1,6 @@
 //! The binary interface, as include/x10.h declares it: a slice is its pointer and then its length.
 
-extern "C" {
+unsafe extern "C" {
     pub fn x10_burst(kind: u8, house: u8, third: u8, data: u8, command: u8, buf: *mut u8, len: usize) -> u64;
     pub fn x10_receiver_fresh(state: *mut u8, len: usize) -> u64;
     pub fn x10_receive(
@@ -22,6 +22,19 @@ extern "C" {
         data: u8,
         command: u8,
     ) -> u64;
+    pub fn x10_station_empty(station: *mut u8, len: usize) -> u64;
+    pub fn x10_station_load(
+        station: *mut u8,
+        len: usize,
+        kind: u8,
+        house: u8,
+        third: u8,
+        data: u8,
+        command: u8,
+        draw: u8,
+    ) -> u64;
+    pub fn x10_station_sends(station: *const u8, len: usize) -> u64;
+    pub fn x10_station_half_cycle(station: *mut u8, len: usize, heard: u8, draw: u8) -> u64;
     pub fn x10_bench_run(
         messages: *const u8,
         m_len: usize,

@@ -1,4 +1,4 @@
-//! The static library `x10` for Rust programs: a safe function for each of its nine routines.
+//! The static library `x10` for Rust programs: a safe function for each of its thirteen routines.
 //!
 //! The library is target/staticlib/libx10.a, which `rt staticlib x10` writes. A package that depends
 //! on this one by path is linked with it.
@@ -99,6 +99,41 @@ pub fn apply(table: &mut [u8], message: Message) -> Answer {
     let Message { kind, house, third, data, command } = message;
     Answer::from_bits(unsafe {
         abi::x10_apply(table.as_mut_ptr(), table.len(), kind, house, third, data, command)
+    })
+}
+
+/// Makes [`STATION_BYTES`] bytes an empty station. Count 0. Refusal: 6.
+///
+/// A keypad makes its station empty once and loads it at a press. Then in each half-cycle it asks what
+/// the station sends, puts that on the mains, hears what the line has, and tells the station.
+#[inline]
+pub fn station_empty(station: &mut [u8]) -> Answer {
+    Answer::from_bits(unsafe { abi::x10_station_empty(station.as_mut_ptr(), station.len()) })
+}
+
+/// Loads a message, with a draw of 8, 9 or 10. Count 0. Refusals: 2, 6, 7; 8, where the station holds
+/// a message.
+#[inline]
+pub fn station_load(station: &mut [u8], message: Message, draw: u8) -> Answer {
+    let Message { kind, house, third, data, command } = message;
+    Answer::from_bits(unsafe {
+        abi::x10_station_load(station.as_mut_ptr(), station.len(), kind, house, third, data, command, draw)
+    })
+}
+
+/// What the station sends in this half-cycle: the count, 0 or 1. Refusal: 6.
+#[inline]
+pub fn station_sends(station: &[u8]) -> Answer {
+    Answer::from_bits(unsafe { abi::x10_station_sends(station.as_ptr(), station.len()) })
+}
+
+/// One half-cycle of the station, with what the line had in it and a draw, which is judged also where
+/// it is not used. Count: 1 where the burst's last half-cycle was sent, so that the station is empty
+/// again, else 0. Refusals: 5, 6, 7; 15, where it sent 1 and heard 0.
+#[inline]
+pub fn station_half_cycle(station: &mut [u8], heard: u8, draw: u8) -> Answer {
+    Answer::from_bits(unsafe {
+        abi::x10_station_half_cycle(station.as_mut_ptr(), station.len(), heard, draw)
     })
 }
 

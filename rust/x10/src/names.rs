@@ -1,4 +1,8 @@
-//! The numbers that the routines take and give, by name.
+//! The numbers that the routines take and give, by name, and what they say in words. A test holds them
+//! against include/x10.h.
+
+/// The version of the library and of this package.
+pub const VERSION: &str = env!("CARGO_PKG_VERSION");
 
 /// Numbers given back: 0, or that of a refusal. PAIR and UNSUPPORTED are events of a receiver.
 pub mod number {
@@ -13,10 +17,12 @@ pub mod number {
     pub const NOT_CARRIED: u8 = 4;
     /// A half-cycle that is not 0 or 1.
     pub const HALF: u8 = 5;
-    /// No receiver, or one in no state that there is; no bench of 1 to 16 stations.
+    /// No receiver or station, or an impossible one; no bench of 1 to 16 stations.
     pub const STATE: u8 = 6;
     /// A draw that is not 8, 9 or 10, or not a draw for each.
     pub const DRAW: u8 = 7;
+    /// The station to be loaded holds a message.
+    pub const BUSY: u8 = 8;
     /// A lent buffer has not the length that is asked for.
     pub const SHORT: u8 = 9;
     /// Both half-cycles of a pair were equal.
@@ -29,6 +35,31 @@ pub mod number {
     pub const RF_COMPLEMENT: u8 = 13;
     /// None of the 544 radio codes.
     pub const RF_CODE: u8 = 14;
+    /// A station sent 1 and heard 0.
+    pub const FAULT: u8 = 15;
+}
+
+/// What a number given back says, in words; "" for a number that is none.
+pub const fn text(number: u8) -> &'static str {
+    match number {
+        number::OK => "done",
+        number::TABLE => "TABLE: the table's length is not 2,064",
+        number::MESSAGE => "MESSAGE: house or unit above 15, or no message",
+        number::RECORD => "RECORD: the table breaks a rule",
+        number::NOT_CARRIED => "NOT CARRIED: tables do not carry this message",
+        number::HALF => "HALF: a half-cycle that is not 0 or 1",
+        number::STATE => "STATE: no receiver, station or bench, or an impossible one",
+        number::DRAW => "DRAW: a draw that is not 8 to 10, or not one for each",
+        number::BUSY => "BUSY: the station holds a message",
+        number::SHORT => "SHORT: a buffer is too short",
+        number::PAIR => "PAIR: both half-cycles of a pair are equal",
+        number::UNSUPPORTED => "UNSUPPORTED: code 10, 11 or 12",
+        number::RF_LENGTH => "RF LENGTH: a radio code has four bytes",
+        number::RF_COMPLEMENT => "RF COMPLEMENT: a pair of radio bytes is not complementary",
+        number::RF_CODE => "RF CODE: none of the 544 radio codes",
+        number::FAULT => "FAULT: sent 1, heard 0",
+        _ => "",
+    }
 }
 
 /// Kinds of message.
@@ -54,6 +85,25 @@ pub mod function {
     pub const STATUS_REQUEST: u8 = 15;
 }
 
+/// The name of a function by its code; "" for a code that is none of the twelve.
+pub const fn function_name(code: u8) -> &'static str {
+    match code {
+        function::ALL_UNITS_OFF => "ALL UNITS OFF",
+        function::ALL_LIGHTS_ON => "ALL LIGHTS ON",
+        function::ON => "ON",
+        function::OFF => "OFF",
+        function::DIM => "DIM",
+        function::BRIGHT => "BRIGHT",
+        function::ALL_LIGHTS_OFF => "ALL LIGHTS OFF",
+        function::HAIL_REQUEST => "HAIL REQUEST",
+        function::HAIL_ACKNOWLEDGE => "HAIL ACKNOWLEDGE",
+        function::STATUS_ON => "STATUS ON",
+        function::STATUS_OFF => "STATUS OFF",
+        function::STATUS_REQUEST => "STATUS REQUEST",
+        _ => "",
+    }
+}
+
 /// What a half-cycle made a receiver say, beside [`number::HALF`] for one that is not 0 or 1, and
 /// [`number::PAIR`] and [`number::UNSUPPORTED`] for a broken frame.
 pub mod event {
@@ -70,17 +120,49 @@ pub mod radio {
     pub const DIM: u8 = 3;
 }
 
+/// Kinds of module: a record's first byte.
+pub mod module {
+    pub const NONE: u8 = 0;
+    pub const LAMP: u8 = 1;
+    pub const APPLIANCE: u8 = 2;
+}
+
+/// Where a record's bytes stand in it.
+pub mod record {
+    /// One of [`crate::module`].
+    pub const KIND: usize = 0;
+    /// 0 to 63.
+    pub const LEVEL: usize = 1;
+    /// 0 or 1.
+    pub const ADDRESSED: usize = 2;
+    /// Bit g for group g.
+    pub const GROUPS: usize = 3;
+    /// Four bytes of 0 to 63, group 0 first.
+    pub const PRESETS: usize = 4;
+}
+
+/// Where the record of a house and unit, both 0 to 15, begins in a table.
+pub const fn record_at(house: u8, unit: u8) -> usize {
+    (house as usize * 16 + unit as usize) * RECORD_BYTES
+}
+
 /// Bytes of a message in lent memory.
 pub const MESSAGE_BYTES: usize = 5;
 /// Half-cycles of the longest burst.
 pub const LONGEST_BURST: usize = 124;
 /// Bytes of a receiver.
 pub const RECEIVER_BYTES: usize = 11;
+/// Bytes of a station.
+pub const STATION_BYTES: usize = 8;
 /// Bytes of an event.
 pub const EVENT_BYTES: usize = 6;
 /// Bytes of an answer in lent memory.
 pub const ANSWER_BYTES: usize = 8;
 /// Bytes of a module table.
 pub const TABLE_BYTES: usize = 2064;
+/// Bytes of a record of a module table.
+pub const RECORD_BYTES: usize = 8;
+/// Where a table's "command heard" bytes begin, one for each house.
+pub const HEARD_AT: usize = 2048;
 /// Stations of the largest bench.
 pub const MOST_STATIONS: usize = 16;

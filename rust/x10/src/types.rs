@@ -1,6 +1,6 @@
 //! What the routines take and give beside numbers and bytes.
 
-use crate::names::{event, kind, ANSWER_BYTES, EVENT_BYTES, MESSAGE_BYTES};
+use crate::names::{ANSWER_BYTES, EVENT_BYTES, MESSAGE_BYTES, event, kind};
 use std::fmt;
 
 /// What a routine gives back: one number of 64 bits.

@@ -3,7 +3,7 @@ use mathlib.Core.Path.{sym, _∙_}
 use Rattle.station.specs.Stations.{turnOf}
 use Rattle.ground.proofs.Causes.{ladder, fine}
 use Rattle.station.proofs.SendLaws.{fault-told}
-use Rattle.station.proofs.TurnLaws.{sends-told, refused-told, turn-promise}
+use Rattle.station.proofs.TurnLaws.{sends-told, refuses-told, turn-promise}
 use borrow.Author.Needs.{needs}
 use Rattle.station.proofs.advance.Statement.{statement}
 use Rattle.station.proofs.advance.Tie as tie
@@ -53,7 +53,7 @@ returns-4 : tie.Need-returns-4
 unfolding turnOf
 returns-4 c =
     let a = c .before .before .before .before .args in
-    let bad = refused-told _ _ (sym (c .before .before .sends .ensures .0) ∙ c .enum-told .given .1) in
+    let bad = refuses-told _ _ (sym (c .before .before .sends .ensures .0) ∙ c .enum-told .given .1) in
     turn-promise (a .s) (a .heard) (a .draw) (search ladder depth 8)
 
 returns-5 : tie.Need-returns-5

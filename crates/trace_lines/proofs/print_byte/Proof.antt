@@ -6,7 +6,7 @@ use native.Mathlib.Omega.{arith}
 use lib.Dec.{eqb}
 use borrow.Author.Tests.{eqb-true}
 use Rattle.trace_lines.specs.Trace.{isHalf}
-use Rattle.trace_lines.proofs.PutLaws.{put-none, put-as}
+use Rattle.text.proofs.PutLaws.{put-none, put-as}
 use Rattle.trace_lines.proofs.TraceLaws.{half-taken, byte-skipped, byte-refused}
 use borrow.Author.Needs.{needs}
 use Rattle.trace_lines.proofs.print_byte.Statement.{statement}

@@ -3,7 +3,7 @@
 use borrow.Author.Tests.{le-leb, eq-eqb, ne-eqb}
 use Rattle.trace_lines.specs.Lines.{roomFor}
 use Rattle.trace_lines.specs.Trace.{halfAfter}
-use Rattle.trace_lines.proofs.PutLaws.{put-as}
+use Rattle.text.proofs.PutLaws.{put-as}
 use borrow.Author.Needs.{needs}
 use Rattle.trace_lines.proofs.print_half.Statement.{statement}
 use Rattle.trace_lines.proofs.print_half.Tie as tie

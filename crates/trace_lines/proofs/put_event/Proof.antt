@@ -1,7 +1,7 @@
 -- `put_event` meets its contract: at a place past the last nothing is put; at any other the event says which line.
 use borrow.Author.Tests.{le-leb, lt-leb}
 use Rattle.trace_lines.specs.Lines.{roomFor}
-use Rattle.trace_lines.proofs.PutLaws.{put-none}
+use Rattle.text.proofs.PutLaws.{put-none}
 use borrow.Author.Needs.{needs}
 use Rattle.trace_lines.proofs.put_event.Statement.{statement}
 use Rattle.trace_lines.proofs.put_event.Tie as tie

@@ -1,8 +1,9 @@
--- `put_line` meets its contract: the number, what follows it and the end of the line, one after the other; 20, 38 and 1 bytes at most.
+-- `put_line` meets its contract: the number, what follows it and the end of the line, one after the other; 20, 28 and 1 bytes at most.
 use native.Mathlib.Omega.{arith}
 use Rattle.trace_lines.specs.Lines.{lineText}
-use Rattle.trace_lines.proofs.PutLaws.{put-then}
-use Rattle.trace_lines.proofs.LineLaws.{digits-at-most, fields-at-most}
+use Rattle.text.proofs.PutLaws.{put-then}
+use Rattle.text.proofs.TextLaws.{digits-at-most}
+use Rattle.trace_lines.proofs.LineLaws.{fields-at-most}
 use borrow.Author.Needs.{needs}
 use Rattle.trace_lines.proofs.put_line.Statement.{statement}
 use Rattle.trace_lines.proofs.put_line.Tie as tie
@@ -13,15 +14,21 @@ put-number-requires c κs = search needs
 put-fields-requires : tie.Need-put-fields-requires
 put-fields-requires c κs = omega (arith, digits-at-most 20 (c .before .before .before .args .number))
 
-put-byte-requires : tie.Need-put-byte-requires
-put-byte-requires c κs =
-    let given = c .before .before .before .before .before .args in
-    omega (arith, digits-at-most 20 (given .number), fields-at-most (given .line))
+slice-aggregate-put-bytes : tie.Need-slice-aggregate-put-bytes
+slice-aggregate-put-bytes c = search needs
+
+put-bytes-requires : tie.Need-put-bytes-requires
+put-bytes-requires c κs =
+    let start = c .before .before .before .before .before .before in
+    omega (arith, digits-at-most 20 (start .args .number), fields-at-most (start .args .line) _ (start .good .1 .1 .1 .0))
 
 returns : tie.Need-returns
 unfolding lineText
-returns c = put-then (c .before .before .before .before .put-number .ensures) (put-then (c .before .before .put-fields .ensures) (c .put-byte .ensures))
+returns c =
+    let fields = c .before .before .before in
+    put-then (fields .before .before .put-number .ensures) (put-then (fields .put-fields .ensures) (c .put-bytes .ensures))
 
 pub put-line-spec : {M : Type 1} → statement M
 put-line-spec =
-    tie.close (tie.spec put-number-requires put-fields-requires put-byte-requires returns)
+    tie.close
+    (tie.spec put-number-requires put-fields-requires slice-aggregate-put-bytes put-bytes-requires returns)

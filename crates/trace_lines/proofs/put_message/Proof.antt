@@ -1,45 +1,44 @@
--- `put_message` meets its contract: in each arm the message is the one that the pattern names.
+-- `put_message` meets its contract: a tab, and then the text of the message, whose unit is a byte by its type.
+use mathlib.Core.Path.{ap}
+use Prim.Native.Nat.{_≤_}
+use native.Mathlib.Omega.{arith}
+use lib.ListN.{length}
+use Rattle.text.specs.Texts.{messageText}
+use Rattle.text.proofs.PutLaws.{put-then, put-as}
+use Rattle.text.proofs.TextLaws.{unit-told, fits-in-text, text-front}
 use borrow.Author.Needs.{needs}
 use Rattle.trace_lines.proofs.put_message.Statement.{statement}
 use Rattle.trace_lines.proofs.put_message.Tie as tie
 
-enum-known-m : tie.Need-enum-known-m
-enum-known-m c = search needs
+slice-aggregate-put-bytes : tie.Need-slice-aggregate-put-bytes
+slice-aggregate-put-bytes c = search needs
 
-put-address-requires : tie.Need-put-address-requires
-put-address-requires c κs = search needs
+put-bytes-requires : tie.Need-put-bytes-requires
+put-bytes-requires c κs = search needs
 
-enum-known-m-2 : tie.Need-enum-known-m-2
-enum-known-m-2 c = search needs
+message-requires : tie.Need-message-requires
+message-requires c κs = search needs
 
-put-function-requires : tie.Need-put-function-requires
-put-function-requires c κs = search needs
-
-enum-known-m-3 : tie.Need-enum-known-m-3
-enum-known-m-3 c = search needs
-
-put-extended-requires : tie.Need-put-extended-requires
-put-extended-requires c κs = search needs
+put-text-requires : tie.Need-put-text-requires
+put-text-requires c κs =
+    let start = c .before .before .before .before .before in
+    let m = start .args .m in
+    let few : length (messageText 9 m) ≤ 27 = fits-in-text .message 9 m (unit-told m _ (start .good .1 .1 .0)) in
+    omega (arith, ap length (text-front (c .message .ensures) (omega arith)))
 
 returns : tie.Need-returns
-returns c = rw (c .before .before .before .m .given .1) (c .put-address .ensures)
-
-returns-2 : tie.Need-returns-2
-returns-2 c = rw (c .before .before .before .m2 .given .1) (c .put-function .ensures)
-
-returns-3 : tie.Need-returns-3
-returns-3 c = rw (c .before .before .before .m3 .given .1) (c .put-extended .ensures)
+returns c =
+    let start = c .before .before .before .before .before .before in
+    let m = start .args .m in
+    let few : length (messageText 9 m) ≤ 27 = fits-in-text .message 9 m (unit-told m _ (start .good .1 .1 .0)) in
+    put-then (c .before .before .before .put-bytes .ensures) (put-as (text-front (c .before .message .ensures) (omega arith)) (c .put-text .ensures))
 
 pub put-message-spec : {M : Type 1} → statement M
 put-message-spec =
     tie.close
     (tie.spec
-    enum-known-m
-    put-address-requires
-    enum-known-m-2
-    put-function-requires
-    enum-known-m-3
-    put-extended-requires
-    returns
-    returns-2
-    returns-3)
+    slice-aggregate-put-bytes
+    put-bytes-requires
+    message-requires
+    put-text-requires
+    returns)

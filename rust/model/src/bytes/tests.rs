@@ -182,6 +182,200 @@ fn all_256_modules_in_one_slice() {
     assert_eq!(Run::over(&mut fresh(), &halves, &mut table).count, 256);
 }
 
+const A1: [u8; MESSAGE] = [1, 0, 0, 0, 0];
+const EMPTY: [u8; STATION] = [0, 0, 0, 0, 0, 8, 0, 0];
+/// A1 waiting, about to send its first half-cycle, a 1, and its fourth, a 0.
+const WAITING: [u8; STATION] = [1, 0, 0, 0, 0, 8, 7, 0];
+const SENDS_1: [u8; STATION] = [1, 0, 0, 0, 0, 8, 8, 0];
+const SENDS_0: [u8; STATION] = [1, 0, 0, 0, 0, 8, 8, 3];
+
+/// Bytes that are no station, or one in no state that there is: one cause each.
+const NO_STATION: [&[u8]; 20] = [
+    &[],
+    &[1, 0, 0, 0, 0, 8, 8],
+    &[1, 0, 0, 0, 0, 8, 8, 0, 0],
+    &[0, 1, 0, 0, 0, 8, 0, 0],
+    &[4, 0, 0, 0, 0, 8, 8, 3],
+    &[2, 0, 7, 0, 0, 8, 8, 3],
+    &[1, 0, 0, 1, 0, 8, 8, 3],
+    &[2, 0, 2, 0, 1, 8, 8, 3],
+    &[1, 16, 0, 0, 0, 8, 8, 3],
+    &[1, 0, 16, 0, 0, 8, 8, 3],
+    &[3, 0, 16, 0, 0, 8, 8, 3],
+    &[1, 0, 0, 0, 0, 7, 7, 3],
+    &[1, 0, 0, 0, 0, 11, 11, 3],
+    &[1, 0, 0, 0, 0, 8, 9, 3],
+    &[1, 0, 0, 0, 0, 8, 8, 44],
+    &[3, 0, 0, 0, 0, 8, 8, 124],
+    &[1, 0, 0, 0, 0, 8, 7, 1],
+    &[0, 0, 0, 0, 0, 9, 0, 0],
+    &[0, 0, 0, 0, 0, 8, 1, 0],
+    &[0, 0, 0, 0, 0, 8, 0, 1],
+];
+
+/// The answer of a load; a refusal has left the bytes as they were.
+fn load(from: &[u8], numbers: [u8; MESSAGE], draw: u8) -> (Result<usize, Refusal>, Vec<u8>) {
+    let mut bytes = from.to_vec();
+    let answer = station_load(&mut bytes, numbers, draw);
+    assert!(answer.is_ok() || bytes == from, "{from:?}");
+    (answer, bytes)
+}
+
+/// The same of a half-cycle.
+fn half_cycle(from: &[u8], heard: u8, draw: u8) -> (Result<usize, Refusal>, Vec<u8>) {
+    let mut bytes = from.to_vec();
+    let answer = station_half_cycle(&mut bytes, heard, draw);
+    assert!(answer.is_ok() || bytes == from, "{from:?}");
+    (answer, bytes)
+}
+
+#[test]
+fn eight_bytes_become_an_empty_station() {
+    for len in [0, 7, 9, 16] {
+        let mut bytes = vec![77; len];
+        assert_eq!(station_empty(&mut bytes), Err(Refusal::State));
+        assert_eq!(bytes, vec![77; len]);
+    }
+    let mut bytes = [77; STATION];
+    assert_eq!(station_empty(&mut bytes), Ok(0));
+    assert_eq!(bytes, EMPTY);
+}
+
+#[test]
+fn stations_read_back() {
+    let extended = Message::Extended { house: 1, unit: 2, data: 3, command: 4 };
+    let stations = [
+        Station::EMPTY,
+        Station { message: Some(Message::Address { house: 15, unit: 15 }), wait: 10, count: 10, place: 43 },
+        Station { message: Some(A_ON), wait: 9, count: 4, place: 0 },
+        Station { message: Some(extended), wait: 8, count: 8, place: 123 },
+    ];
+    for value in stations {
+        assert_eq!(station(&station_bytes(&value)), Ok(value));
+    }
+}
+
+#[test]
+fn what_is_no_station_is_refused_by_each() {
+    for from in NO_STATION {
+        assert_eq!(station_sends(from), Err(Refusal::State), "{from:?}");
+        for draw in [8, 10, 7, 11] {
+            assert_eq!(load(from, A1, draw).0, Err(Refusal::State), "{from:?}");
+            assert_eq!(half_cycle(from, 0, draw).0, Err(Refusal::State), "{from:?}");
+            assert_eq!(half_cycle(from, 1, draw).0, Err(Refusal::State), "{from:?}");
+            assert_eq!(half_cycle(from, 2, draw).0, Err(Refusal::Half), "{from:?}");
+            assert_eq!(load(from, [1, 16, 0, 0, 0], draw).0, Err(Refusal::Message), "{from:?}");
+        }
+    }
+}
+
+#[test]
+fn station_load_refuses_in_order() {
+    for no_message in [[0; MESSAGE], [4, 0, 0, 0, 0], [2, 0, 7, 0, 0], [1, 0, 16, 0, 0], [3, 16, 0, 0, 0]] {
+        for from in [&EMPTY[..], &SENDS_1, &[]] {
+            assert_eq!(load(from, no_message, 8).0, Err(Refusal::Message));
+            assert_eq!(load(from, no_message, 11).0, Err(Refusal::Message));
+        }
+    }
+    for draw in [0, 7, 11, 255] {
+        assert_eq!(load(&EMPTY, A1, draw).0, Err(Refusal::Draw));
+        assert_eq!(load(&SENDS_1, A1, draw).0, Err(Refusal::Draw));
+    }
+    for from in [WAITING, SENDS_1, SENDS_0] {
+        assert_eq!(load(&from, A1, 8).0, Err(Refusal::Busy));
+    }
+}
+
+#[test]
+fn a_station_keeps_only_what_its_message_has() {
+    assert_eq!(load(&EMPTY, [1, 2, 3, 4, 5], 8), (Ok(0), vec![1, 2, 3, 0, 0, 8, 0, 0]));
+    assert_eq!(load(&EMPTY, [2, 2, 3, 4, 5], 9), (Ok(0), vec![2, 2, 3, 0, 0, 9, 0, 0]));
+    assert_eq!(load(&EMPTY, [3, 2, 3, 4, 5], 10), (Ok(0), vec![3, 2, 3, 4, 5, 10, 0, 0]));
+}
+
+#[test]
+fn station_half_cycle_refuses_in_order() {
+    for from in [EMPTY, WAITING, SENDS_1, SENDS_0] {
+        for heard in [2, 3, 255] {
+            assert_eq!(half_cycle(&from, heard, 8).0, Err(Refusal::Half));
+            assert_eq!(half_cycle(&from, heard, 7).0, Err(Refusal::Half));
+        }
+        // A draw is judged also where it is not used.
+        for heard in [0, 1] {
+            assert_eq!(half_cycle(&from, heard, 7).0, Err(Refusal::Draw));
+            assert_eq!(half_cycle(&from, heard, 11).0, Err(Refusal::Draw));
+        }
+    }
+    assert_eq!(half_cycle(&SENDS_1, 0, 8).0, Err(Refusal::Fault));
+}
+
+#[test]
+fn a_half_cycle_of_each_kind() {
+    assert_eq!(half_cycle(&EMPTY, 0, 10), (Ok(0), EMPTY.to_vec()));
+    assert_eq!(half_cycle(&EMPTY, 1, 10), (Ok(0), EMPTY.to_vec()));
+    assert_eq!(half_cycle(&WAITING, 0, 10), (Ok(0), SENDS_1.to_vec()));
+    assert_eq!(half_cycle(&WAITING, 1, 10), (Ok(0), vec![1, 0, 0, 0, 0, 10, 0, 0]));
+    assert_eq!(half_cycle(&SENDS_1, 1, 10), (Ok(0), vec![1, 0, 0, 0, 0, 8, 8, 1]));
+    assert_eq!(half_cycle(&SENDS_0, 0, 10), (Ok(0), vec![1, 0, 0, 0, 0, 8, 8, 4]));
+    assert_eq!(half_cycle(&SENDS_0, 1, 10), (Ok(0), vec![1, 0, 0, 0, 0, 10, 0, 0]));
+}
+
+#[test]
+fn from_load_to_done_alone() {
+    for numbers in [A1, [2, 0, 2, 0, 0], [3, 4, 5, 6, 7]] {
+        for draw in 8..=10 {
+            let (_, mut bytes) = load(&EMPTY, numbers, draw);
+            let mut sent = Vec::new();
+            loop {
+                let half = station_sends(&bytes).unwrap() as u8;
+                sent.push(half);
+                if station_half_cycle(&mut bytes, half, 8).unwrap() == 1 {
+                    break;
+                }
+            }
+            let mut whole = [0; LONGEST];
+            let len = burst(numbers, &mut whole).unwrap();
+            assert_eq!(sent[..usize::from(draw)], [0; 10][..usize::from(draw)]);
+            assert_eq!(sent[usize::from(draw)..], whole[..len]);
+            assert_eq!(bytes, EMPTY);
+        }
+    }
+}
+
+#[test]
+fn stations_on_a_line_are_those_of_a_bench() {
+    let mut drawn = Drawn(11);
+    for _ in 0..200 {
+        let n = 1 + drawn.below(4) as usize;
+        let loads: Vec<u8> = (0..n).map(|_| 8 + drawn.below(3) as u8).collect();
+        let draws: Vec<u8> = (0..n * 134 * n).map(|_| 8 + drawn.below(3) as u8).collect();
+        let messages: Vec<u8> = (0..n)
+            .flat_map(|_| match drawn.below(2) {
+                0 => [1, drawn.below(3) as u8, drawn.below(3) as u8, 0, 0],
+                _ => [3, drawn.below(3) as u8, 0, drawn.below(3) as u8, 0x31],
+            })
+            .collect();
+        let (mut lines, mut marks) = (vec![9; 134 * n], vec![9; 2 * 134 * n]);
+        assert_eq!(bench_run(&messages, &loads, &draws, &mut lines, &mut marks), Ok(134 * n));
+
+        let mut stations = vec![EMPTY; n];
+        for (i, station) in stations.iter_mut().enumerate() {
+            let numbers = messages.as_chunks().0[i];
+            assert_eq!(station_load(station, numbers, loads[i]), Ok(0));
+        }
+        for (j, &line) in lines.iter().enumerate() {
+            let sent = stations.iter().map(|station| station_sends(station).unwrap());
+            assert_eq!(sent.fold(0, |line, sent| line | sent as u8), line);
+            let mut done = 0;
+            for (i, station) in stations.iter_mut().enumerate() {
+                done |= station_half_cycle(station, line, draws[n * j + i]).unwrap() << i;
+            }
+            assert_eq!(done, usize::from(marks[2 * j]) << 8 | usize::from(marks[2 * j + 1]));
+        }
+        assert_eq!(stations, vec![EMPTY; n]);
+    }
+}
+
 /// The addresses A1 and B2, and a draw to load each with.
 const TWO: [u8; 2 * MESSAGE] = [1, 0, 0, 0, 0, 1, 1, 1, 0, 0];
 const LOADS: [u8; 2] = [8, 10];

@@ -12,8 +12,8 @@ slice-write-events c = search needs
 add-put-five : tie.Need-add-put-five
 add-put-five c = search needs
 
-five-given-requires : tie.Need-five-given-requires
-five-given-requires c κs = search needs
+five-none-requires : tie.Need-five-none-requires
+five-none-requires c κs = search needs
 
 put-five-requires : tie.Need-put-five-requires
 put-five-requires c κs = simp length-set (omega arith)
@@ -21,12 +21,12 @@ put-five-requires c κs = simp length-set (omega arith)
 same-length : tie.Need-same-length
 same-length c =
     let a = c .before .before .before .before .before .before .args in
-    coded (a .events .now) _ (a .at) (a .code) _ _ (c .before .before .before .five-given .ensures) (c .before .before .put-five .ensures) .0
+    coded (a .events .now) _ (a .at) (a .code) _ _ (c .before .before .before .five-none .ensures) (c .before .before .put-five .ensures) .0
 
 returns : tie.Need-returns
 returns c =
     let a = c .before .before .before .before .before .before .args in
-    coded (a .events .now) _ (a .at) (a .code) _ _ (c .before .before .before .five-given .ensures) (c .before .before .put-five .ensures) .1
+    coded (a .events .now) _ (a .at) (a .code) _ _ (c .before .before .before .five-none .ensures) (c .before .before .put-five .ensures) .1
 
 pub put-plain-spec : {M : Type 1} → statement M
 put-plain-spec =
@@ -34,7 +34,7 @@ put-plain-spec =
     (tie.spec
     slice-write-events
     add-put-five
-    five-given-requires
+    five-none-requires
     put-five-requires
     same-length
     returns)

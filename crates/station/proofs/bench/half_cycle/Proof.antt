@@ -14,7 +14,7 @@ use lib.Seq.{length-take-le}
 use Rattle.ground.proofs.Causes.{ladder, fine}
 use Rattle.station.proofs.SendLaws.{sends-below}
 use Rattle.station.proofs.StateLaws.{idle-told}
-use Rattle.station.proofs.TurnLaws.{sends-told, refused-told}
+use Rattle.station.proofs.TurnLaws.{sends-told, refuses-told}
 use Rattle.station.proofs.SlotLaws.{zeros, or-max, bench-promise}
 use Rattle.station.proofs.Loops.{Looked, looked-none, looked-more, looked-idle, looked-bad, looked-fine, looked-line}
 use Rattle.station.proofs.bench.half_cycle.Statement.{statement}
@@ -98,7 +98,7 @@ returns-2 c =
     let count = counted (early .before .before) in
     let here = placed (early .before .before) in
     let s = getD (early .before .before .before .args .t1) (early .before .loop .k) zeros in
-    let bad = refused-told s _ (sym (c .before .before .before .sends .ensures .0) ∙ c .before .enum-told .given .1) in
+    let bad = refuses-told s _ (sym (c .before .before .before .sends .ensures .0) ∙ c .before .enum-told .given .1) in
     let wrong = looked-bad (omega (arith, few (early .before .before))) (early .loop-test .taken) zeros (early .before .loop .inv) bad in
     let a = early .before .before .before .args in
     bench-promise (a .n) (a .t1) (a .draws) (search ladder depth 8)

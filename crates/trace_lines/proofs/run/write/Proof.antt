@@ -1,12 +1,12 @@
--- `write` meets its contract: the part that is written is as long as its count says.
+-- `write` meets its contract: the buffer has as many bytes as are to be written.
 use mathlib.Core.Path.{sym}
-use borrow.Author.Needs.{needs}
 use lib.Seq.{length-take-le}
+use borrow.Author.Needs.{needs}
 use Rattle.trace_lines.proofs.run.write.Statement.{statement}
 use Rattle.trace_lines.proofs.run.write.Tie as tie
 
 slice-aggregate-write-all : tie.Need-slice-aggregate-write-all
-slice-aggregate-write-all c = sym (length-take-le _ _ (c .before .if1 .taken))
+slice-aggregate-write-all c = sym (length-take-le _ _ (c .before .before .pre))
 
 write-all-requires : tie.Need-write-all-requires
 write-all-requires c κs = search needs
@@ -14,8 +14,22 @@ write-all-requires c κs = search needs
 returns : tie.Need-returns
 returns c = search needs
 
+slice-aggregate-fail : tie.Need-slice-aggregate-fail
+slice-aggregate-fail c = search needs
+
+fail-requires : tie.Need-fail-requires
+fail-requires c κs = search needs
+
 returns-2 : tie.Need-returns-2
 returns-2 c = search needs
 
 pub write-spec : {M : Type 1} → statement M
-write-spec = tie.close (tie.spec slice-aggregate-write-all write-all-requires returns returns-2)
+write-spec =
+    tie.close
+    (tie.spec
+    slice-aggregate-write-all
+    write-all-requires
+    returns
+    slice-aggregate-fail
+    fail-requires
+    returns-2)
