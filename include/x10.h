@@ -10,13 +10,13 @@
  * that is written overlaps another of the same call.
  *
  * The answer is one number of 64 bits. Bits 0 to 7 are the number given back (x10_number): 0, or the
- * number of the refusal, the lowest that applies. Bits 8 and up are the count (x10_count). A refusal
- * has count 0 and changes nothing that was lent.
+ * number of the refusal, the first that applies in the order written at the routine. Bits 8 and up are
+ * the count (x10_count). A refusal has count 0 and changes nothing that was lent.
  *
- * The routines on a table (x10_apply, x10_radio_route, x10_mains_route) keep their count, of modules
- * whose level differs, in bits 8 to 23. Bits 24 to 39 are kept for a second count and bits 40 to 55
- * for a reply, command and then data: they are 0 until a later version uses them, and so are bits 56
- * to 63. Ask x10_modules for the count of these routines, so that your program stays right then. */
+ * The routines on the two tables (x10_apply, x10_radio_route, x10_mains_route) have two counts: of
+ * modules whose level differs, in bits 8 to 23 (x10_modules), and of shutters whose opening differs, in
+ * bits 24 to 39 (x10_shutters); x10_count would give both as one number. Bits 40 to 55 are kept for a
+ * reply, command and then data: they are 0 until a later version uses them, and so are bits 56 to 63. */
 
 #ifndef X10_H
 #define X10_H
@@ -30,15 +30,15 @@ extern "C" {
 
 /* The version of this header and of the library: major * 10,000 + minor * 100 + patch. While the
  * major number is 0, a minor version may change what is exported. */
-#define X10_VERSION 1000
-#define X10_VERSION_TEXT "0.10.0"
+#define X10_VERSION 1100
+#define X10_VERSION_TEXT "0.11.0"
 
 /* Numbers given back: 0, those of refusals, and of the two BROKEN events. */
 enum x10_result {
     X10_OK = 0,
-    X10_TABLE = 1,         /* the table's length is not 2,064 */
+    X10_TABLE = 1,         /* the module table's length is not 2,064 */
     X10_MESSAGE = 2,       /* a house or unit above 15, a kind or function code that makes no message */
-    X10_RECORD = 3,        /* the table breaks a rule */
+    X10_RECORD = 3,        /* the module table breaks a rule */
     X10_NOT_CARRIED = 4,   /* a message that tables do not carry */
     X10_HALF = 5,          /* a half-cycle that is not 0 or 1 */
     X10_STATE = 6,         /* no receiver or station, or an impossible one; no bench of 1 to 16 */
@@ -50,21 +50,25 @@ enum x10_result {
     X10_RF_LENGTH = 12,    /* a radio code has not four bytes */
     X10_RF_COMPLEMENT = 13,/* a pair of radio bytes is not complementary */
     X10_RF_CODE = 14,      /* none of the 544 radio codes */
-    X10_FAULT = 15         /* a station sent 1 and heard 0 */
+    X10_FAULT = 15,        /* a station sent 1 and heard 0 */
+    X10_SHUTTER_TABLE = 16,/* the shutter table's length is not 5,120 */
+    X10_SHUTTER_RECORD = 17,/* the shutter table breaks a rule */
+    X10_OPENING = 18       /* command 01, 02, 03 or 07 with an opening or limit of 26 to 31 */
 };
 
 static inline uint8_t x10_number(uint64_t answer) { return (uint8_t)answer; }
 static inline uint64_t x10_count(uint64_t answer) { return answer >> 8; }
 static inline uint16_t x10_modules(uint64_t answer) { return (uint16_t)(answer >> 8); }
+static inline uint16_t x10_shutters(uint64_t answer) { return (uint16_t)(answer >> 24); }
 
 /* What a number given back says, in words; "" for a number that is none. */
 static inline const char *x10_text(uint8_t number)
 {
     switch (number) {
     case X10_OK: return "done";
-    case X10_TABLE: return "TABLE: the table's length is not 2,064";
+    case X10_TABLE: return "TABLE: the module table's length is not 2,064";
     case X10_MESSAGE: return "MESSAGE: house or unit above 15, or no message";
-    case X10_RECORD: return "RECORD: the table breaks a rule";
+    case X10_RECORD: return "RECORD: the module table breaks a rule";
     case X10_NOT_CARRIED: return "NOT CARRIED: tables do not carry this message";
     case X10_HALF: return "HALF: a half-cycle that is not 0 or 1";
     case X10_STATE: return "STATE: no receiver, station or bench, or an impossible one";
@@ -77,6 +81,9 @@ static inline const char *x10_text(uint8_t number)
     case X10_RF_COMPLEMENT: return "RF COMPLEMENT: a pair of radio bytes is not complementary";
     case X10_RF_CODE: return "RF CODE: none of the 544 radio codes";
     case X10_FAULT: return "FAULT: sent 1, heard 0";
+    case X10_SHUTTER_TABLE: return "SHUTTER TABLE: the shutter table's length is not 5,120";
+    case X10_SHUTTER_RECORD: return "SHUTTER RECORD: the shutter table breaks a rule";
+    case X10_OPENING: return "OPENING: an opening above 25";
     default: return "";
     }
 }
@@ -130,6 +137,7 @@ static inline const char *x10_function_name(uint8_t code)
 #define X10_EVENT_BYTES 6
 #define X10_ANSWER_BYTES 8
 #define X10_TABLE_BYTES 2064
+#define X10_SHUTTER_TABLE_BYTES 5120
 #define X10_MOST_STATIONS 16
 
 /* Writes the burst of a message, one byte of 0 or 1 for each half-cycle, at the front of buf; bytes
@@ -191,10 +199,45 @@ static inline size_t x10_record_at(uint8_t house, uint8_t unit)
     return ((size_t)house * 16 + unit) * X10_RECORD_BYTES;
 }
 
-/* Applies a message to a module table. Count: records whose level differs before and after.
- * Refusals: 1, 2, 3, 4. */
-uint64_t x10_apply(uint8_t *table, size_t len, uint8_t kind, uint8_t house, uint8_t third,
-                   uint8_t data, uint8_t command);
+/* A shutter table is 5,120 bytes: 256 shutters of 20 in order A1 to P16. docs/TABLE.md says which values
+ * they take; all zeros is a table with no shutter. */
+#define X10_SHUTTER_BYTES 20
+
+/* A shutter's bytes: present 0 or 1; opening 0 (closed) to 25 (open); limit 0 to 25; sun protection 0 or
+ * 1; for each of the eight lifestyles whether it is included, 0 or 1, Wake first; and for each its
+ * opening there, 0 where it is not included. */
+enum x10_shutter {
+    X10_PRESENT_AT = 0,
+    X10_OPENING_AT = 1,
+    X10_LIMIT_AT = 2,
+    X10_PROTECTION_AT = 3,
+    X10_INCLUDED_AT = 4,
+    X10_OPENINGS_AT = 12
+};
+
+enum x10_lifestyle {
+    X10_WAKE = 0,
+    X10_LEAVE = 1,
+    X10_RETURN = 2,
+    X10_SLEEP = 3,
+    X10_EVENING = 4,
+    X10_VACATION = 5,
+    X10_SPECIAL_1 = 6,
+    X10_SPECIAL_2 = 7
+};
+
+/* Where the bytes of the shutter of a house and unit, both 0 to 15, begin. */
+static inline size_t x10_shutter_at(uint8_t house, uint8_t unit)
+{
+    return ((size_t)house * 16 + unit) * X10_SHUTTER_BYTES;
+}
+
+/* Applies a message to a module table and a shutter table. An extended message of type 0 (command 00 to
+ * 0F) is for shutters and leaves the module table as it is; every other message leaves the shutters.
+ * Counts: records whose level differs, and shutters whose opening differs, before and after.
+ * Refusals, in this order: 1, 16, 2, 3, 17, 4, 18. */
+uint64_t x10_apply(uint8_t *table, size_t len, uint8_t *shutters, size_t shutters_len, uint8_t kind,
+                   uint8_t house, uint8_t third, uint8_t data, uint8_t command);
 
 /* A station is 8 bytes: the message that it holds, five zeros where it is empty; the wait drawn, 8 to
  * 10; its count of clear half-cycles in a row; how many half-cycles of its burst it has sent. Bytes
@@ -233,21 +276,23 @@ uint64_t x10_bench_run(const uint8_t *messages, size_t m_len, const uint8_t *loa
                        const uint8_t *draws, size_t d_len, uint8_t *lines, size_t l_len,
                        uint8_t *marks, size_t k_len);
 
-/* Applies what a radio code means to a table: both messages of on and off, or none. Count: records
- * whose level differs before and after the whole. Refusals: 1, 3, 12, 13, 14. */
-uint64_t x10_radio_route(uint8_t *table, size_t len, const uint8_t *code, size_t code_len);
+/* Applies what a radio code means to both tables: both messages of on and off, or none. Counts: as
+ * x10_apply has them, before and after the whole. Refusals, in this order: 1, 16, 3, 17, 12, 13, 14. */
+uint64_t x10_radio_route(uint8_t *table, size_t len, uint8_t *shutters, size_t shutters_len,
+                         const uint8_t *code, size_t code_len);
 
-/* Hands the receiver n half-cycles, one after the other, and applies each message that it gives to the
- * table before the next half-cycle. Events are as x10_receive leaves them. Beside event i, the eight
- * bytes at answers + 8 * i are what the table answered to the message given: an answer as x10_apply
- * gives it (0, or 4 for a message that tables do not carry, and the count of modules), its lowest byte
- * first (x10_answer_at); 0 where no message was given. Bytes beyond 6 * n and 8 * n stay. The call's own
- * number is 0 also where the table answered 4: the receiver goes on, and the table stays as it was.
- * Count: modules whose level differs before and after the whole call. Refusals: 1, 3; 6, as
- * x10_receive gives it; 9, where events_len is below 6 * n or answers_len below 8 * n. */
+/* Hands the receiver n half-cycles, one after the other, and applies each message that it gives to both
+ * tables before the next half-cycle. Events are as x10_receive leaves them. Beside event i, the eight
+ * bytes at answers + 8 * i are what the tables answered to the message given: an answer as x10_apply
+ * gives it (0, or 4 for a message that tables do not carry, or 18 for an opening above 25, and both
+ * counts), its lowest byte first (x10_answer_at); 0 where no message was given. Bytes beyond 6 * n and
+ * 8 * n stay. The call's own number is 0 also where the tables answered 4 or 18: the receiver goes on,
+ * and the tables stay as they were. Counts: as x10_apply has them, before and after the whole call.
+ * Refusals, in this order: 1, 16, 3, 17; 6, as x10_receive gives it; 9, where events_len is below 6 * n
+ * or answers_len below 8 * n. */
 uint64_t x10_mains_route(uint8_t *state, size_t state_len, const uint8_t *halves, size_t n,
-                         uint8_t *table, size_t len, uint8_t *events, size_t events_len,
-                         uint8_t *answers, size_t answers_len);
+                         uint8_t *table, size_t len, uint8_t *shutters, size_t shutters_len,
+                         uint8_t *events, size_t events_len, uint8_t *answers, size_t answers_len);
 
 /* Answer i of x10_mains_route as one number. */
 static inline uint64_t x10_answer_at(const uint8_t *answers, size_t i)

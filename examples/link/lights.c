@@ -1,5 +1,5 @@
-/* "House A, all lights on": its burst, heard on the mains for a table with one dark lamp, A1; then the
- * refusal of a buffer that is one byte short. */
+/* "House A, all lights on": its burst, heard on the mains for tables with one dark lamp, A1, and no
+ * shutter; then the refusal of a buffer that is one byte short. */
 #include <stdio.h>
 #include "x10.h"
 
@@ -7,7 +7,8 @@ enum { CLEAR = 3, MOST = CLEAR + X10_LONGEST_BURST };
 
 int main(void)
 {
-    uint8_t line[MOST] = {0}, state[X10_RECEIVER_BYTES], table[X10_TABLE_BYTES] = {1};
+    uint8_t line[MOST] = {0}, state[X10_RECEIVER_BYTES];
+    uint8_t table[X10_TABLE_BYTES] = {1}, shutters[X10_SHUTTER_TABLE_BYTES] = {0};
     uint8_t events[MOST * X10_EVENT_BYTES], answers[MOST * X10_ANSWER_BYTES];
 
     uint64_t answer = x10_burst(X10_FUNCTION, 0, X10_ALL_LIGHTS_ON, 0, 0, line + CLEAR, X10_LONGEST_BURST);
@@ -15,7 +16,7 @@ int main(void)
     for (size_t i = 0; i < n; i++) putchar('0' + line[i]);
 
     x10_receiver_fresh(state, sizeof state);
-    answer = x10_mains_route(state, sizeof state, line, n, table, sizeof table,
+    answer = x10_mains_route(state, sizeof state, line, n, table, sizeof table, shutters, sizeof shutters,
                              events, sizeof events, answers, sizeof answers);
     printf("\nnumber %d, modules %d, A1 at %d\n", x10_number(answer), x10_modules(answer), table[1]);
     for (size_t i = 0; i < n; i++) {

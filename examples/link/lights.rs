@@ -1,5 +1,5 @@
-//! "House A, all lights on": its burst, heard on the mains for a table with one dark lamp, A1; then the
-//! refusal of a buffer that is one byte short.
+//! "House A, all lights on": its burst, heard on the mains for tables with one dark lamp, A1, and no
+//! shutter; then the refusal of a buffer that is one byte short.
 
 use x10::{Answer, Event, Message};
 
@@ -15,11 +15,13 @@ fn main() {
 
     let mut table = [0; x10::TABLE_BYTES];
     table[0] = 1;
+    let mut shutters = [0; x10::SHUTTER_TABLE_BYTES];
     let mut state = [0; x10::RECEIVER_BYTES];
     x10::receiver_fresh(&mut state);
     let mut events = [0; MOST * x10::EVENT_BYTES];
     let mut answers = [0; MOST * x10::ANSWER_BYTES];
-    let answer = x10::mains_route(&mut state, &line[..n], &mut table, &mut events, &mut answers);
+    let answer =
+        x10::mains_route(&mut state, &line[..n], &mut table, &mut shutters, &mut events, &mut answers);
     println!("number {}, modules {}, A1 at {}", answer.number(), answer.modules(), table[1]);
     for i in 0..n {
         let to = Answer::at(&answers, i);

@@ -12,7 +12,7 @@ use Rattle.radio.specs.declared.RadioCommand.{RadioCommand}
 use Rattle.radio.specs.declared.RadioCommand.the-variants.{On as RadioOn, Off as RadioOff}
 use Rattle.plan.specs.Plans.{planAnswer}
 use Rattle.plan.specs.declared.Plan.{Plan}
-use Rattle.plan.specs.declared.Plan.the-variants.{Run, Refused}
+use Rattle.plan.specs.declared.Plan.the-variants.{Run, Move, Refused}
 use Rattle.record.specs.ModuleTable.{stepRecord}
 use Rattle.record.specs.declared.Record.{Record}
 
@@ -30,6 +30,7 @@ APPLIANCE = 2
 -- the level of unit 1's module once a plan is carried out, in a house that has heard no command since the address
 abbrev pub levelAfter : Plan → Record → ℕ
 levelAfter (Run a) r = stepRecord a (record { heard = 0 }) 0 r .level
+levelAfter (Move a) r = r .level
 levelAfter (Refused why) r = r .level
 
 -- an example: a message and its frame; a radio command and its four bytes; four bytes and the number that refuses them; a message of

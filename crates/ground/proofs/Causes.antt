@@ -5,12 +5,13 @@
 --     judged-map           what becomes of an answer becomes of its causes' answer
 --     nothing-refused      where the number given is 0, the routine does what it is for
 --     none-stops           and each test was passed
+--     judged-append        some causes, and then others
 --     judged-same, judged-holds    what is done matters only there; what holds of it and of all refusals holds of the answer
 --     done-told, refused-told      what a report tells of its causes: none applies, or which one is first
 --     some-number, lowest-given      SomeNumber and LowestGiven
 use mathlib.Core.Path.{_≡_, refl, sym, ap, ap₂, _∙_}
 use mathlib.Core.Bool.{Bool, true, false, not, and-eq-true-iff}
-use mathlib.Core.List.{List, [], _∷_}
+use mathlib.Core.List.{List, [], _∷_, _++_}
 use Prim.Native.Nat.{ℕ, zero, suc, _≤_, min}
 use native.Mathlib.Omega.{arith}
 use borrow.Author.Tests.{leb-true, not-true, not-false, le-leb, lt-leb, lt-ltb, le-ltb, eq-eqb, ne-eqb}
@@ -21,7 +22,7 @@ use Rattle.ground.specs.Refusals.{refusalNumber, Report, reports, refuse
 use Rattle.ground.specs.Refusals.{causeNumber, lower, lowest, allFrom, rising, LowestGiven, SomeNumber}
 use Rattle.ground.specs.declared.Refusal.{Refusal}
 use Rattle.ground.specs.declared.Refusal.the-variants.{Table, Message, Record, NotCarried, Half, State, Draw}
-use Rattle.ground.specs.declared.Refusal.the-variants.{Busy, Short, RfLength, Complement, Code, Fault}
+use Rattle.ground.specs.declared.Refusal.the-variants.{Busy, Short, RfLength, Complement, Code, Fault, ShutterTable, ShutterRecord, Opening}
 
 -- ---- an answer, cause by cause
 
@@ -91,6 +92,9 @@ some-number RfLength = omega arith
 some-number Complement = omega arith
 some-number Code = omega arith
 some-number Fault = omega arith
+some-number ShutterTable = omega arith
+some-number ShutterRecord = omega arith
+some-number Opening = omega arith
 
 module _ {A : Type 0} (done : A) (refused : Refusal → A) where
   pub nothing-refused : (cs : List Cause) → numberGiven cs ≡ 0 → judged cs done refused ≡ done
@@ -124,12 +128,22 @@ judged-holds P done refused (when false why ∷ cs) d r = judged-holds P done re
 judged-holds P done refused (unless true why ∷ cs) d r = judged-holds P done refused cs d r
 judged-holds P done refused (unless false why ∷ cs) d r = r why
 
+pub judged-append : {A : Type 0} (done : A) (refused : Refusal → A) (cs ds : List Cause)
+    → judged (cs ++ ds) done refused ≡ judged cs (judged ds done refused) refused
+unfolding judged
+judged-append done refused [] ds = refl
+judged-append done refused (when bad why ∷ cs) ds = ap (pick bad (refused why)) (judged-append done refused cs ds)
+judged-append done refused (unless fine why ∷ cs) ds = ap (λ x. pick fine x (refused why)) (judged-append done refused cs ds)
+
 -- ---- what a report tells of its causes
 
 -- no two refusals have one number
 refusalOf : ℕ → Refusal
 refusalOf n =
-    getD (Fault ∷ Table ∷ Message ∷ Record ∷ NotCarried ∷ Half ∷ State ∷ Draw ∷ Busy ∷ Short ∷ Fault ∷ Fault ∷ RfLength ∷ Complement ∷ Code ∷ []) n Fault
+    getD
+    (Fault ∷ Table ∷ Message ∷ Record ∷ NotCarried ∷ Half ∷ State ∷ Draw ∷ Busy ∷ Short ∷ Fault ∷ Fault ∷ RfLength ∷ Complement ∷ Code ∷ Fault
+    ∷ ShutterTable ∷ ShutterRecord ∷ Opening ∷ [])
+    n Fault
 
 of-number : (why : Refusal) → refusalOf (refusalNumber why) ≡ why
 unfolding refusalOf
@@ -146,6 +160,9 @@ of-number RfLength = refl
 of-number Complement = refl
 of-number Code = refl
 of-number Fault = refl
+of-number ShutterTable = refl
+of-number ShutterRecord = refl
+of-number Opening = refl
 
 same-number : (why w : Refusal) → refusalNumber why ≡ refusalNumber w → why ≡ w
 same-number why w e = sym (of-number why) ∙ ap refusalOf e ∙ of-number w

@@ -1,3 +1,4 @@
 pub mod Choice
 pub mod Text
 pub mod Refusals
+pub mod Records

@@ -9,7 +9,7 @@ use Rattle.ground.specs.declared.CountAnswer.{CountAnswer}
 use Rattle.ground.specs.declared.CountAnswer.the-variants.{Done, Refused}
 use Rattle.ground.specs.declared.Refusal.{Refusal}
 use Rattle.ground.specs.declared.Refusal.the-variants.{Table, Message, Record, NotCarried, Half, State, Draw}
-use Rattle.ground.specs.declared.Refusal.the-variants.{Busy, Short, RfLength, Complement, Code, Fault}
+use Rattle.ground.specs.declared.Refusal.the-variants.{Busy, Short, RfLength, Complement, Code, Fault, ShutterTable, ShutterRecord, Opening}
 
 -- 01's table, but for 10 and 11, which are "receiver events, not refusals"
 abbrev pub refusalNumber : Refusal → ℕ
@@ -26,6 +26,10 @@ refusalNumber RfLength = 12
 refusalNumber Complement = 13
 refusalNumber Code = 14
 refusalNumber Fault = 15
+-- 02, A1: "16 SHUTTER TABLE (length not 5,120)", "17 SHUTTER RECORD (a rule here broken ..)", "18 OPENING"
+refusalNumber ShutterTable = 16
+refusalNumber ShutterRecord = 17
+refusalNumber Opening = 18
 
 -- ---- what an answer reports
 

@@ -1,5 +1,7 @@
-// What every routine shares: why it refuses, the number that is given back for it, and an answer that counts.
+// What every routine shares: why it refuses, the number that is given back for it, an answer that counts, and the count of one record.
 ghost use mathlib.Core.Path.{_≡_};
+ghost use Prim.Native.Nat.{_≤_};
+ghost use Rattle.ground.specs.Choice.{pick};
 ghost use Rattle.ground.specs.Refusals.{refusalNumber};
 
 // Why a routine refuses, in the order of the numbers.
@@ -28,12 +30,25 @@ pub enum Refusal {
     Code,
     // Sent 1, heard 0.
     Fault,
+    // A shutter table's length.
+    ShutterTable,
+    // A shutter table that breaks a rule.
+    ShutterRecord,
+    // A command for shutters with an opening above 25.
+    Opening,
 }
 
 // What a routine answers that counts.
 pub enum CountAnswer {
     Done(usize),
     Refused(Refusal),
+}
+
+// The count of one record, by whether its value stayed the same.
+pub fn count_of(same: bool) -> usize
+    ensures { λ r. ⌜ (r ≡ pick same 0 1) × (r ≤ 1) ⌝ }
+{
+    if same { 0 } else { 1 }
 }
 
 // The number that is given back for a refusal.
@@ -54,5 +69,8 @@ pub fn refusal_number(why: Refusal) -> u8
         Refusal::Complement => 13,
         Refusal::Code => 14,
         Refusal::Fault => 15,
+        Refusal::ShutterTable => 16,
+        Refusal::ShutterRecord => 17,
+        Refusal::Opening => 18,
     }
 }

@@ -1,4 +1,5 @@
--- What a message asks of the modules of its house (01, 'The module table'; XTC798, type 3), in 01's order, and where it is refused.
+-- What a message asks of the modules of its house (01, 'The module table'; XTC798, type 3), in 01's order, and where it is refused. What it asks of
+-- shutters is in Motions.
 use Prim.Native.Nat.{ℕ, _/_, _%_, _^_}
 use mathlib.Core.Bool.{Bool, true, false, not, _&&_, _||_}
 use mathlib.Core.List.{List, [], _∷_}
@@ -13,7 +14,8 @@ use Rattle.plan.specs.declared.Act.{Act}
 use Rattle.plan.specs.declared.Act.the-variants.{Nothing, Address, Obey, Join, Level, JoinAt, UnitsOn, UnitsOff}
 use Rattle.plan.specs.declared.Act.the-variants.{Leave, LeaveHouse, Execute, GroupOff, GroupDim, GroupBright}
 use Rattle.plan.specs.declared.Plan.{Plan}
-use Rattle.plan.specs.declared.Plan.the-variants.{Run, Refused}
+use Rattle.plan.specs.declared.Plan.the-variants.{Run, Move, Refused}
+use Rattle.plan.specs.Motions.{motionPlan, broughtBy}
 
 -- the house that a message is for
 abbrev pub houseOf : Message → ℕ
@@ -78,28 +80,36 @@ extendedPlan u d c =
 
 -- ---- Every message
 
--- what a message asks, whatever its house and unit
+-- what a message asks, whatever its house and unit; an extended message's type is its command's top four bits, and type 0 is for shutters
 abbrev pub planOf : Message → Plan
 planOf (Calls h u) = Run (Address u)
 planOf (Command h f) = Run (Obey f)
-planOf (Extended h u d c) = extendedPlan u d c
+planOf (Extended h u d c) = pick (eqb (c / 16) 0) (motionPlan u d c) (extendedPlan u d c)
 
 -- whether it is carried: its plan runs
 abbrev pub runs : Plan → Bool
 runs (Run a) = true
+runs (Move a) = true
 runs (Refused why) = false
 
 abbrev pub carried : Message → Bool
 carried m = runs (planOf m)
 
--- "MESSAGE: house or unit above 15", "NOT CARRIED: as said"
+-- "18 OPENING last, when 01, 02, 03 or 07 carries 26..31"
+abbrev pub fits : Plan → Bool
+fits (Run a) = true
+fits (Move a) = leb (broughtBy a) 25
+fits (Refused why) = true
+
+-- "MESSAGE: house or unit above 15", "NOT CARRIED: as said", "OPENING last"
 abbrev pub planCauses : Message → List Cause
-planCauses m = unless (messageOk m) refusal.Message ∷ unless (carried m) refusal.NotCarried ∷ []
+planCauses m = unless (messageOk m) refusal.Message ∷ unless (carried m) refusal.NotCarried ∷ unless (fits (planOf m)) refusal.Opening ∷ []
 
 unfoldable pub planAnswer : Message → Plan
 planAnswer m = judged (planCauses m) (planOf m) Refused
 
--- the number and the act
-abbrev pub planReport : Plan → Report Act
-planReport (Run a) = reports (a ∷ [])
+-- the number, and the plan where it is none of a refusal
+abbrev pub planReport : Plan → Report Plan
+planReport (Run a) = reports (Run a ∷ [])
+planReport (Move a) = reports (Move a ∷ [])
 planReport (Refused why) = refuses why

@@ -1,16 +1,34 @@
 -- What holds of plans: proofs/PlanLaws.antt.
+use Prim.Native.Nat.{ℕ, _<_}
+use lib.Dec.{eqb, leb}
 use mathlib.Core.Path.{_≡_}
-use mathlib.Core.Bool.{true}
-use mathlib.Core.Logic.{_↔_}
+use mathlib.Core.Bool.{Bool, true, not, _&&_, _||_}
+use mathlib.Core.Logic.{_↔_, _⊎_}
 use Rattle.ground.specs.Refusals.{numberGiven, lowest}
 use Rattle.message.specs.declared.Message.{Message}
+use Rattle.message.specs.declared.Message.the-variants.{Extended}
 use Rattle.plan.specs.declared.Act.{Act}
-use Rattle.plan.specs.declared.Plan.the-variants.{Run}
-use Rattle.plan.specs.Plans.{planOf, carried, planCauses}
+use Rattle.plan.specs.declared.Motion.{Motion}
+use Rattle.plan.specs.declared.Plan.the-variants.{Run, Move}
+use Rattle.plan.specs.Motions.{openingIn}
+use Rattle.plan.specs.Plans.{planOf, carried, fits, planCauses}
 
--- a message is carried exactly when it asks for an act
+-- a message is carried exactly when it asks for an act or a motion
 abbrev pub CarriedRuns : Type 0
-CarriedRuns = (m : Message) → (carried m ≡ true) ↔ ((a : Act) × (planOf m ≡ Run a))
+CarriedRuns = (m : Message) → (carried m ≡ true) ↔ (((a : Act) × (planOf m ≡ Run a)) ⊎ ((a : Motion) × (planOf m ≡ Move a)))
+
+-- motions are what type 0 asks for, "and it never changes the module table"; no other message asks for one
+pub record OnlyTypeZero : Type 0 where
+  pub type-zero : (h u d c : ℕ) (a : Act) → c < 16 → planOf (Extended h u d c) ≡ Run a → ⊥
+  pub others : (m : Message) (a : Motion) → planOf m ≡ Move a
+      → (h : ℕ) × (u : ℕ) × (d : ℕ) × (c : ℕ) × (m ≡ Extended h u d c) × (c < 16)
+
+-- "18 .. when 01, 02, 03 or 07 carries 26..31", by the data alone; such a message is carried
+abbrev pub carriesOpening : ℕ → Bool
+carriesOpening c = eqb c 0x01 || eqb c 0x02 || eqb c 0x03 || eqb c 0x07
+
+abbrev pub WhichOpenings : Type 0
+WhichOpenings = (h u d c : ℕ) → fits (planOf (Extended h u d c)) ≡ not (carriesOpening c && leb 26 (openingIn d))
 
 -- "Within one routine the lowest number that applies is given."
 abbrev pub PlanLowest : Type 0

@@ -1,12 +1,16 @@
-// What a message asks of the modules of its house, with the parts that its data byte holds. No table is looked at.
+// What a message asks of the modules of its house or of the shutters, with the parts that its data byte holds. No table is looked at.
 use ground::Refusal;
 use message::Function;
 use message::Message;
 ghost use mathlib.Core.Path.{_≡_};
-ghost use Rattle.ground.specs.Refusals.{judged, refuses};
-ghost use Rattle.plan.specs.Plans.{bit, houseOf, planOf, carried, planCauses, planAnswer, planReport};
+ghost use mathlib.Core.List.{[], _∷_};
+ghost use Rattle.ground.specs.Refusals.{unless, judged, refuses};
+ghost use Rattle.ground.specs.declared.Refusal.the-variants.{Opening};
+ghost use Rattle.plan.specs.declared.Plan.the-variants.{Refused};
+ghost use Rattle.plan.specs.Plans.{bit, houseOf, planOf, carried, fits, planCauses, planAnswer, planReport};
 
 mod extended;
+mod motions;
 
 // What is asked of the sixteen modules of a house. A unit is a number 0 to 15, a group 0 to 3 and a level 0 to 63; bit g of
 // `groups` is set for group g.
@@ -41,9 +45,56 @@ pub enum Act {
     GroupBright { group: u8 },
 }
 
-// What becomes of a message: an act is run, or the message is refused.
+// What is asked of the shutters. A unit is a number 0 to 15, an opening or limit 0 (closed) to 25 (open), a lifestyle 0 to 7.
+pub enum Motion {
+    // Heard, and no shutter changes.
+    SelfTest,
+    // The unit opens to the opening, and its sun protection is enabled.
+    OpenProtected {
+        unit: u8,
+        opening: u8,
+    },
+    // The unit's limit is set, and its sun protection is enabled.
+    Limit {
+        unit: u8,
+        limit: u8,
+    },
+    // The unit opens to the opening, and its sun protection is disabled.
+    OpenUnprotected {
+        unit: u8,
+        opening: u8,
+    },
+    // All shutters of the house open fully, sun protection disabled.
+    OpenHouse,
+    // All shutters of every house open fully, sun protection disabled.
+    OpenAll,
+    // The unit is included in the lifestyle at the opening.
+    Include {
+        unit: u8,
+        lifestyle: u8,
+        opening: u8,
+    },
+    // In every house those included in the lifestyle go to their openings for it.
+    Begin {
+        lifestyle: u8,
+    },
+    // The unit is excluded from the lifestyle.
+    Exclude {
+        unit: u8,
+        lifestyle: u8,
+    },
+    // In every house all are excluded from all lifestyles.
+    ExcludeAll,
+    // All shutters of the house close, sun protection enabled.
+    CloseHouse,
+    // All shutters of every house close, sun protection enabled.
+    CloseAll,
+}
+
+// What becomes of a message: an act is run on modules, a motion on shutters, or the message is refused.
 pub enum Plan {
     Run(Act),
+    Move(Motion),
     Refused(Refusal),
 }
 
@@ -82,21 +133,45 @@ fn asked(m: Message) -> Plan
             unit,
             data,
             command,
-        } => extended::extended_plan(unit, data, command),
+        } => {
+            if command / 16 == 0 {
+                motions::motion_plan(unit, data, command)
+            } else {
+                extended::extended_plan(unit, data, command)
+            }
+        }
     }
 }
 
-// Whether a message asks for an act. Its house and unit are not judged.
+// A plan, refused where it brings an opening above 25.
+fn fitting(p: Plan) -> Plan
+    ensures { λ r. ⌜ r ≡ judged (unless (fits p) Opening ∷ []) p Refused ⌝ }
+{
+    match p {
+        Plan::Run(act) => Plan::Run(act),
+        Plan::Move(motion) => {
+            if motions::brought_by(motion) <= 25 {
+                Plan::Move(motion)
+            } else {
+                Plan::Refused(Refusal::Opening)
+            }
+        }
+        Plan::Refused(why) => Plan::Refused(why),
+    }
+}
+
+// Whether a message asks for an act or a motion. Its house and unit are not judged.
 pub fn carried(m: Message) -> bool
     ensures { λ r. ⌜ r ≡ carried m ⌝ }
 {
     match asked(m) {
         Plan::Run(_) => true,
+        Plan::Move(_) => true,
         Plan::Refused(_) => false,
     }
 }
 
-// The act that a message asks for: refused where its house or unit is above 15, and where it is not carried.
+// What a message asks for: refused where its house or unit is above 15, where it is not carried, and where its opening is above 25.
 pub fn plan_for(m: Message) -> Plan
     ensures answer { λ r. ⌜ r ≡ planAnswer m ⌝ }
     ensures report { λ r. ⌜ planReport r ≡ judged (planCauses m) (planReport (planOf m)) refuses ⌝ }
@@ -104,5 +179,5 @@ pub fn plan_for(m: Message) -> Plan
     if !message::valid(m) {
         return Plan::Refused(Refusal::Message);
     }
-    asked(m)
+    fitting(asked(m))
 }

@@ -189,6 +189,9 @@ event-read-back (Stays refusal.RfLength) n v = absurd (false≢true n)
 event-read-back (Stays refusal.Complement) n v = absurd (false≢true n)
 event-read-back (Stays refusal.Code) n v = absurd (false≢true n)
 event-read-back (Stays refusal.Fault) n v = absurd (false≢true n)
+event-read-back (Stays refusal.ShutterTable) n v = absurd (false≢true n)
+event-read-back (Stays refusal.ShutterRecord) n v = absurd (false≢true n)
+event-read-back (Stays refusal.Opening) n v = absurd (false≢true n)
 
 pub events-read-back : EventsReadBack
 events-read-back = record {

@@ -5,8 +5,8 @@ use mathlib.Core.Bool.{Bool, not}
 use mathlib.Core.List.{List, [], _∷_}
 use lib.Dec.{eqb}
 use lib.ListN.{getD, set}
-use lib.Seq.{sets}
 use Rattle.ground.specs.Choice.{pick}
+use Rattle.ground.specs.Records.{Layout, putAt}
 use Rattle.plan.specs.Plans.{bit}
 use Rattle.record.specs.declared.Record.{Record}
 use Rattle.record.specs.declared.House.{House}
@@ -50,8 +50,11 @@ recordAt t i =
 abbrev pub recordBytes : Record → List ℕ
 recordBytes r = r .kind ∷ r .level ∷ r .addressed ∷ r .mask ∷ r .preset0 ∷ r .preset1 ∷ r .preset2 ∷ r .preset3 ∷ []
 
-unfoldable pub put : List ℕ → ℕ → Record → List ℕ
-put t i r = sets t (i * RECORD-BYTES) (recordBytes r)
+abbrev pub modules : Layout Record
+modules = record { size = RECORD-BYTES; at = recordAt; bytes = recordBytes }
+
+abbrev pub put : List ℕ → ℕ → Record → List ℕ
+put t i r = putAt modules t i r
 
 -- "one "command heard" byte per house": the bytes of house h beside its records', and such bytes put there
 unfoldable pub houseAt : List ℕ → ℕ → House

@@ -1,25 +1,23 @@
 -- The module table (01, 'The module table'; XTC798, type 3), in 01's order: the rules of a valid table, what an act does to one
 -- record and to the house's own bytes, and what it does to the table. Which act a message asks for is in plan's Plans, where the
 -- bytes lie in Layout.
-use Prim.Native.Nat.{ℕ, zero, suc, _+_, _-_, _*_, min, max}
-use mathlib.Core.Bool.{Bool, true, not, _&&_, _||_}
+use Prim.Native.Nat.{ℕ, _+_, _-_, _*_, min, max}
+use mathlib.Core.Bool.{Bool, not, _&&_, _||_}
 use mathlib.Core.List.{List}
 use lib.Dec.{eqb, leb}
 use lib.ListN.{length}
 use Rattle.ground.specs.Choice.{pick}
+use Rattle.ground.specs.Records.{stepEach, allBelow, differing}
 use Rattle.message.specs.declared.Function.{Function}
 use Rattle.message.specs.declared.Function.the-variants.{AllUnitsOff, AllLightsOn, On, Off, Dim, Bright, AllLightsOff}
 use Rattle.message.specs.declared.Function.the-variants.{HailRequest, HailAcknowledge, StatusOn, StatusOff, StatusRequest}
-use Rattle.message.specs.declared.Message.{Message}
 use Rattle.plan.specs.declared.Act.{Act}
 use Rattle.plan.specs.declared.Act.the-variants.{Nothing, Address, Obey, Join, Level, JoinAt, UnitsOn, UnitsOff}
 use Rattle.plan.specs.declared.Act.the-variants.{Leave, LeaveHouse, Execute, GroupOff, GroupDim, GroupBright}
-use Rattle.plan.specs.declared.Plan.{Plan}
-use Rattle.plan.specs.declared.Plan.the-variants.{Run, Refused}
-use Rattle.plan.specs.Plans.{bit, houseOf}
+use Rattle.plan.specs.Plans.{bit}
 use Rattle.record.specs.declared.Record.{Record}
 use Rattle.record.specs.declared.House.{House}
-use Rattle.record.specs.Layout.{RECORDS, UNITS, HOUSES, TABLE-BYTES, recordAt, put, houseAt, putHouse}
+use Rattle.record.specs.Layout.{RECORDS, UNITS, HOUSES, TABLE-BYTES, recordAt, modules, houseAt, putHouse}
 use Rattle.record.specs.Layout.{present, lamp, appliance, member, preset, withLevel, withAddressed, regroup}
 
 -- ---- The rules of a valid table
@@ -45,11 +43,6 @@ recordOk r =
     && presetOk (r .kind) (member 0 r) (r .preset0) && presetOk (r .kind) (member 1 r) (r .preset1)
     && presetOk (r .kind) (member 2 r) (r .preset2) && presetOk (r .kind) (member 3 r) (r .preset3)
     && (present r || allZeros r)
-
--- a test at every number below n
-unfoldable pub allBelow : ℕ → (ℕ → Bool) → Bool
-allBelow zero f = true
-allBelow (suc n) f = allBelow n f && f n
 
 -- "House bytes are 0 or 1."
 abbrev pub houseOk : House → Bool
@@ -158,26 +151,15 @@ houseAfter a own = record { heard = heardAfter a (own .heard) }
 
 -- ---- What it does to the table
 
--- the first n records of house h, each stepped where it lies, by the house's own bytes
-unfoldable pub stepHouse : ℕ → Act → House → ℕ → List ℕ → List ℕ
-stepHouse zero a own h t = t
-stepHouse (suc n) a own h t =
-    let s = stepHouse n a own h t in
-    let i = h * UNITS + n in
-    put s i (stepRecord a own n (recordAt s i))
-
--- an act run for house h: its sixteen records, and then its own bytes
+-- an act run for house h: its sixteen records, each stepped where it lies by the bytes that the house had, and then its own bytes
 unfoldable pub runAct : Act → ℕ → List ℕ → List ℕ
 runAct a h t =
     let own = houseAt t h in
-    putHouse (stepHouse UNITS a own h t) h (houseAfter a own)
+    putHouse (stepEach modules (stepRecord a own) (h * UNITS) UNITS t) h (houseAfter a own)
 
--- a message carried out; nothing where it is refused
-abbrev pub carriedOut : Message → Plan → List ℕ → List ℕ
-carriedOut m (Run a) t = runAct a (houseOf m) t
-carriedOut m (Refused why) t = t
+-- "The result counts the records whose level differs before and after."
+abbrev pub levelOf : Record → ℕ
+levelOf r = r .level
 
--- "The result counts the records whose level differs before and after.": among the first n
-unfoldable pub changed : ℕ → List ℕ → List ℕ → ℕ
-changed zero before after = 0
-changed (suc n) before after = changed n before after + pick (eqb (recordAt before n .level) (recordAt after n .level)) 0 1
+abbrev pub changed : List ℕ → List ℕ → ℕ
+changed before after = differing modules levelOf RECORDS before after

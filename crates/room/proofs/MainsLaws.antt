@@ -10,10 +10,11 @@
 --     given-some, remains-quiet            a message is given, or none
 --     Turn, Turned, turn                   one turn: a stretch is taken, and its message applied
 --     route-done, route-owed               what the route leaves and owes where nothing is refused
+--     route-faulty, route-stopped          what it owes where the room is refused, or what else is lent
 --     put-held                             the receiver put back
---     mains-lowest                         MainsLowest
+--     mains-order                          MainsOrder
 use mathlib.Core.Path.{_≡_, refl, sym, ap, ap₂, subst, _∙_}
-use mathlib.Core.Bool.{Bool, true, false, false≢true}
+use mathlib.Core.Bool.{true, false, false≢true}
 use mathlib.Core.List.{List, [], _∷_, _++_, append-assoc, append-nil, flatMap}
 use Prim.Native.Nat.{ℕ, zero, suc, _+_, _-_, _*_, _≤_, _<_}
 use native.Mathlib.Nat.{zero-add, suc-add}
@@ -21,10 +22,10 @@ use native.Mathlib.Omega.{arith}
 use borrow.Author.Tests.{eq-eqb, le-leb}
 use lib.ListN.{length, set, drop, replicate, length-replicate, length-append, length-drop, drop-of-length-le}
 use lib.Seq.{sets, length-sets}
-use Rattle.ground.specs.Refusals.{judged}
+use Rattle.ground.specs.Refusals.{judged, reports, refuses}
 use Rattle.ground.specs.declared.CountAnswer.{CountAnswer}
-use Rattle.ground.specs.declared.CountAnswer.the-variants.{Done as Counted}
-use Rattle.ground.proofs.Causes.{lowest-given}
+use Rattle.ground.specs.declared.Refusal.{Refusal}
+use Rattle.ground.proofs.Causes.{refused-told}
 use Rattle.ground.proofs.Lists.{sets-append, sets-front}
 use Rattle.receiver.specs.Receivers.{receiverOk, stepOf}
 use Rattle.receiver.specs.Hearing.{eventsOf, receiverAfter, givenBy, elseGiven, firstGiven, elseMore, toGiven}
@@ -38,17 +39,17 @@ use Rattle.receiver.specs.declared.lent.ReceiverRead.the-variants.{Receiver as 
 use Rattle.receiver.proofs.ReadBack.{run-valid, held-length}
 use Rattle.receiver.proofs.RunLaws.{events-length}
 use Rattle.receiver.proofs.Stretches.{Toward, to-most, to-some, events-on, rest-on, stretch-told}
-use Rattle.record.specs.Layout.{TABLE-BYTES}
-use Rattle.record.specs.ModuleTable.{tableOk}
-use Rattle.room.specs.Rooms.{Room, roomOf, roomLong, roomOk, changes, roomReport}
-use Rattle.room.specs.Lent.{isGiven, placeOf, stretchAnswers, Prepared, Remains, remains, remainsBy}
+use Rattle.room.specs.Rooms.{Room, roomOk, changes, roomReport}
+use Rattle.room.specs.Lent.{roomVerdict, isGiven, placeOf, stretchAnswers, Prepared, Remains, remains, remainsBy}
 use Rattle.room.specs.Mains.{roomGiven, answerGiven, answerBytes, roomHeard, answersHeard, Lending}
-use Rattle.room.specs.Mains.{lentTo, mainsCauses, mainsRoom, mainsAnswer, mainsReport, mainsAfter}
-use Rattle.room.specs.Mains.{mainsLent, lentAfter, MainsLowest}
+use Rattle.room.specs.Mains.{lentTo, lentCauses, mainsCauses, mainsRoom, mainsAnswer, mainsReport, mainsAfter}
+use Rattle.room.specs.Mains.{mainsLent, lentAfter}
+use Rattle.room.specs.Statements.{MainsOrder}
 use Rattle.room.specs.declared.RoomAnswer.{RoomAnswer}
-use Rattle.room.specs.declared.RoomAnswer.the-variants.{Done}
-use Rattle.room.proofs.HouseLaws.{whole}
-use Rattle.room.proofs.ApplyLaws.{valid-stays}
+use Rattle.room.specs.declared.RoomAnswer.the-variants.{Done, Refused}
+use Rattle.room.specs.declared.RoomJudged.{RoomJudged}
+use Rattle.room.specs.declared.RoomJudged.the-variants.{Fine, Refused as Faulty}
+use Rattle.room.proofs.ApplyLaws.{valid-parts, valid-stays, by-verdict}
 
 -- ---- events one after the other
 
@@ -218,39 +219,38 @@ unfolding roomHeard
 heard-valid [] room ok = ok
 heard-valid (e ∷ es) room ok = heard-valid es (roomGiven (givenBy e) room) (given-valid (givenBy e) room ok)
 
-pub remains-valid : (hs : List ℕ) (r : Receiver) (i : ℕ) (room : Room) (events answers : List ℕ) → roomOk room ≡ true
-    → roomOk (remainsBy hs r i room events answers .room) ≡ true
-unfolding remainsBy
-remains-valid hs r i room events answers ok = heard-valid (eventsOf r (drop i hs)) room ok
+module _ (hs : List ℕ) (r : Receiver) (i : ℕ) (room : Room) (events answers : List ℕ) {x : Remains} (left : x ≡ remainsBy hs r i room events answers) where
+  pub remains-valid : roomOk room ≡ true → roomOk (x .room) ≡ true
+  unfolding remainsBy
+  remains-valid ok = ap (λ (y : Remains). roomOk (y .room)) left ∙ heard-valid (eventsOf r (drop i hs)) room ok
 
-pub remains-ok : (hs : List ℕ) (r : Receiver) (i : ℕ) (room : Room) (events answers : List ℕ) → receiverOk r ≡ true
-    → receiverOk (remainsBy hs r i room events answers .receiver) ≡ true
-unfolding remainsBy
-remains-ok hs r i room events answers ok = run-valid r (drop i hs) ok
+  pub remains-ok : receiverOk r ≡ true → receiverOk (x .receiver) ≡ true
+  unfolding remainsBy
+  remains-ok ok = ap (λ (y : Remains). receiverOk (y .receiver)) left ∙ run-valid r (drop i hs) ok
 
 -- ---- one turn: a stretch is taken from place i on, and its message applied
 
 -- what is then ready, and what still remains
-pub record Turned (hs : List ℕ) (r : Receiver) (i : ℕ) (room : Room) (events answers : List ℕ) (next : Receiver) (to : ℕ) (table′ events′ answers′ : List ℕ)
-    : Type 0 where
-  pub ready : Prepared next hs to table′ events′ answers′
+pub record Turned (hs : List ℕ) (r : Receiver) (i : ℕ) (room : Room) (events answers : List ℕ) (next : Receiver) (to : ℕ) (room′ : Room)
+    (events′ answers′ : List ℕ) : Type 0 where
+  pub ready : Prepared next hs to room′ events′ answers′
   pub events-long : length events′ ≡ length events
   pub answers-long : length answers′ ≡ length answers
-  pub same : remainsBy hs next to (roomOf table′) events′ answers′ ≡ remainsBy hs r i room events answers
+  pub same : remainsBy hs next to room′ events′ answers′ ≡ remainsBy hs r i room events answers
 
-pub record Turn (hs : List ℕ) (r : Receiver) (i : ℕ) (table events answers : List ℕ) (o : Stretch) (events′ : List ℕ) (to : ℕ) : Type 0 where
+pub record Turn (hs : List ℕ) (r : Receiver) (i : ℕ) (room : Room) (events answers : List ℕ) (o : Stretch) (events′ : List ℕ) (to : ℕ) : Type 0 where
   pub toward : Toward hs r i events to (o .next) (o .given) events′
   pub within : to ≤ length hs
   pub later : i < length hs → i < to
-  pub after : i < length hs → (table′ answers′ : List ℕ) → roomOf table′ ≡ roomGiven (o .given) (roomOf table)
-      → answers′ ≡ sets answers (8 * i) (stretchAnswers (to - i) (o .given) (roomOf table))
-      → Turned hs r i (roomOf table) events answers (o .next) to table′ events′ answers′
+  pub after : i < length hs → (room′ : Room) (answers′ : List ℕ) → room′ ≡ roomGiven (o .given) room
+      → answers′ ≡ sets answers (8 * i) (stretchAnswers (to - i) (o .given) room)
+      → Turned hs r i room events answers (o .next) to room′ events′ answers′
 
-pub turn : (hs : List ℕ) (r : Receiver) (i : ℕ) (table events answers : List ℕ) → Prepared r hs i table events answers
+pub turn : (hs : List ℕ) (r : Receiver) (i : ℕ) (room : Room) (events answers : List ℕ) → Prepared r hs i room events answers
     → (o : Stretch) (events′ : List ℕ) (to : ℕ) → o ≡ stretchOf r hs i (length events) → events′ ≡ stretchEvents r hs i events
     → to ≡ placeOf (o .answer) (length hs)
-    → Turn hs r i table events answers o events′ to
-turn hs r i table events answers ready o events′ to ran put place =
+    → Turn hs r i room events answers o events′ to
+turn hs r i room events answers ready o events′ to ran put place =
     let told = stretch-told hs r i events (ready .receiver) o events′ (ready .events-space) ran put in
     let at : to ≡ i + length (toGiven r (drop i hs)) = place ∙ ap (λ (a : CountAnswer). placeOf a (length hs)) (told .0) in
     let toward = subst (λ (n : ℕ). Toward hs r i events n (o .next) (o .given) events′) (sym at) (told .1) in
@@ -261,20 +261,20 @@ turn hs r i table events answers ready o events′ to ran put place =
       toward = toward;
       within = within;
       later = λ more. omega (arith, at, to-some r (drop i hs) (omega (arith, long)));
-      after = λ more table′ answers′ applied answered.
-          let wide : length answers′ ≡ length answers = ap length answered ∙ length-sets answers (8 * i) (stretchAnswers (to - i) (o .given) (roomOf table)) in
+      after = λ more room′ answers′ applied answered.
+          let wide : length answers′ ≡ length answers = ap length answered ∙ length-sets answers (8 * i) (stretchAnswers (to - i) (o .given) room) in
           record {
             ready = record {
               receiver = ap receiverOk (toward .receiver) ∙ run-valid r (toGiven r (drop i hs)) (ready .receiver);
               place = within;
-              rules = ap roomOk applied ∙ given-valid (o .given) (roomOf table) (ready .rules);
+              rules = ap roomOk applied ∙ given-valid (o .given) room (ready .rules);
               events-space = omega (arith, ready .events-space, same);
               answers-space = omega (arith, ready .answers-space, wide);
             };
             events-long = same;
             answers-long = wide;
             same = ap (λ (q : Room). remainsBy hs (o .next) to q events′ answers′) applied
-                ∙ remains-on hs r i (roomOf table) events answers to (o .next) (o .given) events′ answers′ more toward answered;
+                ∙ remains-on hs r i room events answers to (o .next) (o .given) events′ answers′ more toward answered;
           };
     }
 
@@ -327,23 +327,55 @@ module _ (state halves events answers : List ℕ) (room : Room) (r : Receiver) (
         rw is (lent-same halves (st ∙ ap receiverBytes (ap (λ (x : Remains). x .receiver) e)) ev an),
       )
 
--- what a call owes that is not refused
-pub route-owed : (l : Lending) (t : List ℕ) (o : RoomAnswer) (room′ : Room) (lent′ : Lending) → tableOk t ≡ true → holdsReceiver (l .state) ≡ true
-    → 8 * length (l .halves) ≤ length (l .answers) → 6 * length (l .halves) ≤ length (l .events)
-    → o ≡ Done (changes (roomOf t) (mainsRoom l (roomOf t))) → room′ ≡ mainsRoom l (roomOf t) → lent′ ≡ mainsLent l (roomOf t)
-    → (o ≡ mainsAnswer l (roomOf t))
-    × ((roomReport o ≡ mainsReport l (roomOf t)) × ((room′ ≡ mainsAfter l (roomOf t)) × (lent′ ≡ lentAfter l (roomOf t))))
-unfolding mainsAnswer mainsAfter lentAfter judged
-route-owed l t o room′ lent′ ok holds wide fits e f g =
-    let long : roomLong (roomOf t) ≡ true = eq-eqb (length t) TABLE-BYTES (whole t ok .size) in
+-- where nothing is refused, it is done
+past-room : {A : Type 0} (done : A) (refused : Refusal → A) (l : Lending) (room : Room) → roomOk room ≡ true → holdsReceiver (l .state) ≡ true
+    → 8 * length (l .halves) ≤ length (l .answers) → 6 * length (l .halves) ≤ length (l .events) → judged (mainsCauses l room) done refused ≡ done
+unfolding judged
+past-room done refused l room ok holds wide fits =
+    let v = valid-parts room ok in
     let w = le-leb (8 * length (l .halves)) (length (l .answers)) wide in
-    let v = le-leb (6 * length (l .halves)) (length (l .events)) fits in
-    (rw (long, ok, holds, w, v) e, (rw (long, ok, holds, w, v) (ap roomReport e), (rw (long, ok, holds, w, v) f, rw (long, ok, holds, w, v) g)))
+    let x = le-leb (6 * length (l .halves)) (length (l .events)) fits in
+    rw (v .modules-long, v .shutters-long, v .modules-valid, v .shutters-valid, holds, w, x)
+
+-- what a call owes by what it answers and leaves
+abbrev pub RouteOwed : Lending → Room → RoomAnswer → Room → Lending → Type 0
+RouteOwed l room o room′ lent′ =
+    (o ≡ mainsAnswer l room) × ((roomReport o ≡ mainsReport l room) × ((room′ ≡ mainsAfter l room) × (lent′ ≡ lentAfter l room)))
+
+-- one that is not refused
+pub route-owed : (l : Lending) (room : Room) (o : RoomAnswer) (room′ : Room) (lent′ : Lending) → roomOk room ≡ true → holdsReceiver (l .state) ≡ true
+    → 8 * length (l .halves) ≤ length (l .answers) → 6 * length (l .halves) ≤ length (l .events)
+    → o ≡ Done (changes room (mainsRoom l room)) → room′ ≡ mainsRoom l room → lent′ ≡ mainsLent l room
+    → RouteOwed l room o room′ lent′
+unfolding mainsAnswer mainsAfter lentAfter
+route-owed l room o room′ lent′ ok holds wide fits e f g = (
+  e ∙ sym (past-room _ _ l room ok holds wide fits),
+  (
+    ap roomReport e ∙ sym (past-room _ _ l room ok holds wide fits),
+    (f ∙ sym (past-room _ _ l room ok holds wide fits), g ∙ sym (past-room _ _ l room ok holds wide fits)),
+  ),
+)
+
+-- one that is refused: by the verdict on the room, or, where that is fine, by what else is lent
+module _ (l : Lending) (room : Room) {v : RoomJudged} (judged-so : v ≡ roomVerdict room) (why : Refusal) where
+  route-refused : refuses why ≡ judged (mainsCauses l room) (reports {A = ℕ} []) refuses → RouteOwed l room (Refused why) room l
+  unfolding mainsAnswer mainsAfter lentAfter
+  route-refused e =
+      let cs = mainsCauses l room in (
+        refused-told [] cs why e _ Refused,
+        (refused-told [] cs why e _ refuses, (refused-told [] cs why e _ (λ w. room), refused-told [] cs why e _ (λ w. l))),
+      )
+
+  pub route-faulty : v ≡ Faulty why → RouteOwed l room (Refused why) room l
+  route-faulty is = route-refused (sym (by-verdict (reports []) refuses (lentCauses l) room (sym is ∙ judged-so)))
+
+  pub route-stopped : v ≡ Fine → refuses why ≡ judged (lentCauses l) (reports {A = ℕ} []) refuses → RouteOwed l room (Refused why) room l
+  route-stopped is e = route-refused (e ∙ sym (by-verdict (reports []) refuses (lentCauses l) room (sym is ∙ judged-so)))
 
 -- a receiver put into bytes that held one
 pub put-held : (state : List ℕ) (q next : Receiver) → receiverIn state ≡ Is q → receiverOk next ≡ true → putAfter next state ≡ receiverBytes next
 unfolding putAfter judged
 put-held state q next is ok = rw (eq-eqb (length state) 11 (held-length state q is), ok) refl
 
-pub mains-lowest : MainsLowest
-mains-lowest l room = lowest-given (mainsCauses l room) refl
+pub mains-order : MainsOrder
+mains-order l room = refl

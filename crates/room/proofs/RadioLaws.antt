@@ -3,16 +3,17 @@
 --     meant, means-some         the messages of a valid command
 --     two-obeyed, one-obeyed    a radio command's messages applied
 --     read-obeyed, not-read     what the reader answered, applied
---     radio-reported, radio-lowest      the number and the count by the causes; RadioLowest
+--     not-judged                what the route owes where the tables are refused
+--     radio-reported, radio-order       the number and the counts by the causes; RadioOrder
 use mathlib.Core.Path.{_≡_, refl, sym, ap, subst, _∙_}
 use mathlib.Core.Bool.{true}
 use mathlib.Core.List.{List, [], _∷_, head-eq-of-cons-eq}
-use Prim.Native.Nat.{ℕ, _<_}
+use Prim.Native.Nat.{ℕ}
 use native.Mathlib.Omega.{arith}
 use lib.ListN.{length}
-use Rattle.ground.specs.Refusals.{judged}
+use Rattle.ground.specs.Refusals.{judged, refuses}
 use Rattle.ground.specs.declared.Refusal.{Refusal}
-use Rattle.ground.proofs.Causes.{judged-map, lowest-given}
+use Rattle.ground.proofs.Causes.{judged-map}
 use Rattle.message.specs.declared.Message.{Message}
 use Rattle.radio.specs.Codes.{commandOk, commandOf}
 use Rattle.radio.specs.Answers.{readCauses, readAnswer, messagesMeant, messagesAnswer, messagesOf}
@@ -22,17 +23,17 @@ use Rattle.radio.specs.declared.RadioMessages.{RadioMessages}
 use Rattle.radio.specs.declared.RadioMessages.the-variants as messages
 use Rattle.radio.specs.declared.RadioRead.{RadioRead}
 use Rattle.radio.specs.declared.RadioRead.the-variants as read
-use Rattle.record.specs.Layout.{RECORDS, recordAt}
-use Rattle.record.specs.ModuleTable.{tableOk, changed}
-use Rattle.room.specs.Rooms.{Room, roomOf, changes, roomAfter, applyAnswer, roomReport, levelsOf}
+use Rattle.room.specs.Rooms.{Room, roomOk, changes, roomAfter, applyAnswer, roomReport, changesOf}
 use Rattle.room.specs.Routes.{roomAfterAll, radioCauses, radioAfter, radioAnswer, radioReport}
-use Rattle.room.specs.Statements.{RadioLowest}
+use Rattle.room.specs.Statements.{RadioOrder}
 use Rattle.room.specs.declared.Changes.{Changes}
 use Rattle.room.specs.declared.RoomAnswer.{RoomAnswer}
 use Rattle.room.specs.declared.RoomAnswer.the-variants.{Done, Refused}
-use Rattle.room.proofs.HouseLaws.{whole}
-use Rattle.room.proofs.ApplyLaws.{count-is}
-use Rattle.room.proofs.Levels.{address-levels, levels-count}
+use Rattle.room.specs.Lent.{roomVerdict}
+use Rattle.room.specs.declared.RoomJudged.{RoomJudged}
+use Rattle.room.specs.declared.RoomJudged.the-variants.{Refused as Faulty}
+use Rattle.room.proofs.ApplyLaws.{valid-parts, verdictOn, by-verdict, counts-are}
+use Rattle.room.proofs.Levels.{address-counts}
 
 -- ---- the messages of a command
 
@@ -47,74 +48,69 @@ means-some (Off h u) why e = let z : _≡_ {A = ℕ} 0 1 = cc in omega arith
 means-some (Bright h) why e = let z : _≡_ {A = ℕ} 0 1 = cc in omega arith
 means-some (Dim h) why e = let z : _≡_ {A = ℕ} 0 1 = cc in omega arith
 
--- of two messages the first is an address, which changes no level
-abbrev LevelsStay : Room → Message → Type 0
-LevelsStay room m = (i : ℕ) → i < RECORDS → recordAt (roomAfter m room .modules) i .level ≡ recordAt (room .modules) i .level
+-- of two messages the first is an address, which changes no level and no opening
+abbrev CountsStay : Room → Message → Type 0
+CountsStay room m = (after : Room) → changes (roomAfter m room) after ≡ changes room after
 
-first-keeps : (k : RadioCommand) (m n : Message) (room : Room) → messagesOf k ≡ m ∷ n ∷ [] → LevelsStay room m
-first-keeps (On h u) m n room e = subst (LevelsStay room) (head-eq-of-cons-eq e) (address-levels h u room)
-first-keeps (Off h u) m n room e = subst (LevelsStay room) (head-eq-of-cons-eq e) (address-levels h u room)
+first-keeps : (k : RadioCommand) (m n : Message) (room : Room) → messagesOf k ≡ m ∷ n ∷ [] → CountsStay room m
+first-keeps (On h u) m n room e = subst (CountsStay room) (head-eq-of-cons-eq e) (address-counts h u room)
+first-keeps (Off h u) m n room e = subst (CountsStay room) (head-eq-of-cons-eq e) (address-counts h u room)
 first-keeps (Bright h) m n room e = let two = ap length e in absurd (omega arith)
 first-keeps (Dim h) m n room e = let two = ap length e in absurd (omega arith)
 
--- ---- a command on a valid table
+-- ---- a command on a valid room
 
-abbrev pub withLevels : ℕ → Changes
-withLevels n = record { levels = n }
-
-module _ (k : RadioCommand) (t : List ℕ) where
+module _ (k : RadioCommand) (room : Room) where
   -- what `obey` owes
-  abbrev Owed : Changes → List ℕ → Type 0
-  Owed c u = (c ≡ changes (roomOf t) (roomOf u)) × (roomOf u ≡ roomAfterAll (messagesOf k) (roomOf t))
+  abbrev Owed : Changes → Room → Type 0
+  Owed c left = (c ≡ changes room left) × (left ≡ roomAfterAll (messagesOf k) room)
 
-  pub one-obeyed : (m : Message) (u : List ℕ) (a : RoomAnswer) → messagesOf k ≡ m ∷ [] → a ≡ applyAnswer m (roomOf t) → roomOf u ≡ roomAfter m (roomOf t)
-      → Owed (withLevels (levelsOf a)) u
+  pub one-obeyed : (m : Message) (left : Room) (a : RoomAnswer) → messagesOf k ≡ m ∷ [] → a ≡ applyAnswer m room → left ≡ roomAfter m room
+      → Owed (changesOf a) left
   unfolding roomAfterAll
-  one-obeyed m u a e right left = (
-    ap withLevels (ap levelsOf right ∙ count-is m (roomOf t) ∙ ap (λ (x : Room). changes (roomOf t) x .levels) (sym left)),
-    rw e left,
+  one-obeyed m left a e right after = (ap changesOf right ∙ counts-are m room ∙ ap (changes room) (sym after), rw e after)
+
+  pub two-obeyed : (m n : Message) (mid left : Room) (a : RoomAnswer) → messagesOf k ≡ m ∷ n ∷ [] → mid ≡ roomAfter m room
+      → a ≡ applyAnswer n mid → left ≡ roomAfter n mid → Owed (changesOf a) left
+  unfolding roomAfterAll
+  two-obeyed m n mid left a e between right after = (
+    ap changesOf right ∙ counts-are n mid ∙ ap (changes mid) (sym after)
+        ∙ ap (λ (x : Room). changes x left) between ∙ first-keeps k m n room e left,
+    rw e (after ∙ ap (roomAfter n) between),
   )
 
-  pub two-obeyed : (m n : Message) (u v : List ℕ) (a : RoomAnswer) → messagesOf k ≡ m ∷ n ∷ [] → roomOf u ≡ roomAfter m (roomOf t)
-      → a ≡ applyAnswer n (roomOf u) → roomOf v ≡ roomAfter n (roomOf u) → Owed (withLevels (levelsOf a)) v
-  unfolding roomAfterAll
-  two-obeyed m n u v a e after right left =
-      let count : levelsOf a ≡ changed RECORDS u v = ap levelsOf right ∙ count-is n (roomOf u) ∙ ap (λ (x : Room). changes (roomOf u) x .levels) (sym left) in
-      let kept : (i : ℕ) → i < RECORDS → recordAt u i .level ≡ recordAt t i .level =
-      λ i below. ap (λ (x : Room). recordAt (x .modules) i .level) after ∙ first-keeps k m n (roomOf t) e i below in
-      (ap withLevels (count ∙ levels-count RECORDS u t v kept), rw e (left ∙ ap (roomAfter n) after))
+-- ---- a code on a valid room
 
--- ---- a code on a valid table
-
-module _ (code t : List ℕ) where
+module _ (code : List ℕ) (room : Room) where
   -- what is answered and left by what the reader answers
   abbrev answerBy : RadioRead → RoomAnswer
-  answerBy (read.Command k) = Done (changes (roomOf t) (roomAfterAll (messagesOf k) (roomOf t)))
+  answerBy (read.Command k) = Done (changes room (roomAfterAll (messagesOf k) room))
   answerBy (read.Refused why) = Refused why
 
   abbrev roomBy : RadioRead → Room
-  roomBy (read.Command k) = roomAfterAll (messagesOf k) (roomOf t)
-  roomBy (read.Refused why) = roomOf t
+  roomBy (read.Command k) = roomAfterAll (messagesOf k) room
+  roomBy (read.Refused why) = room
 
   -- what `radio_route` owes
-  abbrev Right : RoomAnswer → List ℕ → Type 0
-  Right a u = (a ≡ radioAnswer code (roomOf t)) × (roomOf u ≡ radioAfter code (roomOf t))
+  abbrev Right : RoomAnswer → Room → Type 0
+  Right a left = (a ≡ radioAnswer code room) × (left ≡ radioAfter code room)
 
-  module _ (ok : tableOk t ≡ true) {r : RadioRead} (reads : r ≡ readAnswer code) where
-    by-reader : (radioAnswer code (roomOf t) ≡ answerBy r) × (radioAfter code (roomOf t) ≡ roomBy r)
+  module _ (ok : roomOk room ≡ true) {r : RadioRead} (reads : r ≡ readAnswer code) where
+    by-reader : (radioAnswer code room ≡ answerBy r) × (radioAfter code room ≡ roomBy r)
     unfolding radioAnswer radioAfter readAnswer judged
     by-reader =
         let k = read.Command (commandOf code) in
-        rw (whole t ok .long, ok, reads)
+        let v = valid-parts room ok in
+        rw (v .modules-long, v .shutters-long, v .modules-valid, v .shutters-valid, reads)
         (sym (judged-map answerBy k read.Refused (readCauses code)), sym (judged-map roomBy k read.Refused (readCauses code)))
 
-    pub read-obeyed : (k : RadioCommand) (u : List ℕ) (c : Changes) → r ≡ read.Command k → Owed k t c u → Right (Done c) u
-    read-obeyed k u c is did = (
-      ap Done (did .0 ∙ ap (changes (roomOf t)) (did .1)) ∙ sym (by-reader .0 ∙ ap answerBy is),
+    pub read-obeyed : (k : RadioCommand) (left : Room) (c : Changes) → r ≡ read.Command k → Owed k room c left → Right (Done c) left
+    read-obeyed k left c is did = (
+      ap Done (did .0 ∙ ap (changes room) (did .1)) ∙ sym (by-reader .0 ∙ ap answerBy is),
       did .1 ∙ sym (by-reader .1 ∙ ap roomBy is),
     )
 
-    pub not-read : (why : Refusal) → r ≡ read.Refused why → Right (Refused why) t
+    pub not-read : (why : Refusal) → r ≡ read.Refused why → Right (Refused why) room
     not-read why is = (sym (by-reader .0 ∙ ap answerBy is), sym (by-reader .1 ∙ ap roomBy is))
 
 pub radio-reported : (code : List ℕ) (room : Room) {r : RoomAnswer} → r ≡ radioAnswer code room
@@ -122,5 +118,17 @@ pub radio-reported : (code : List ℕ) (room : Room) {r : RoomAnswer} → r ≡ 
 unfolding radioAnswer
 radio-reported code room e = ap roomReport e ∙ judged-map roomReport _ _ (radioCauses code room)
 
-pub radio-lowest : RadioLowest
-radio-lowest code room = lowest-given (radioCauses code room) refl
+-- what the route owes where the tables are refused
+pub not-judged : (code : List ℕ) (room : Room) {v : RoomJudged} → v ≡ roomVerdict room → (why : Refusal) → v ≡ Faulty why
+    → (Refused why ≡ radioAnswer code room) × ((roomReport (Refused why) ≡ radioReport code room) × (room ≡ radioAfter code room))
+unfolding radioAnswer radioAfter
+not-judged code room e why is = (
+  by _ Refused,
+  (by _ refuses, by _ (λ w. room)),
+)
+  where
+    by : {A : Type 0} (done : A) (refused : Refusal → A) → refused why ≡ judged (radioCauses code room) done refused
+    by done refused = sym (by-verdict done refused (readCauses code) room e ∙ ap (verdictOn done refused (readCauses code)) is)
+
+pub radio-order : RadioOrder
+radio-order code room = refl

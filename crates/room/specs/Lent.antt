@@ -1,13 +1,13 @@
--- What the private routines over lent bytes promise beside the definitions of 01's section 'The module table': one record stepped where it
--- lies, and half-cycles taken stretch after stretch, up to the first that gives MESSAGE.
-use Prim.Native.Nat.{ℕ, _-_, _*_, _≤_}
+-- What the private routines of a room promise beside the definitions of Rooms, Routes and Mains: both tables judged, one table's answer as the room's, a byte
+-- of each record kept, and half-cycles taken stretch after stretch, up to the first that gives MESSAGE.
+use Prim.Native.Nat.{ℕ, _+_, _-_, _*_, _≤_}
 use mathlib.Core.Path.{_≡_}
 use mathlib.Core.Bool.{Bool, true, false}
-use mathlib.Core.List.{List, _++_, flatMap}
-use lib.Dec.{eqb}
-use lib.ListN.{length, drop, replicate}
+use mathlib.Core.List.{List, [], _∷_, _++_, flatMap}
+use lib.ListN.{length, getD, drop, replicate}
 use lib.Seq.{sets}
-use Rattle.ground.specs.Choice.{pick}
+use Rattle.ground.specs.Records.{Layout}
+use Rattle.ground.specs.Refusals.{judged}
 use Rattle.ground.specs.declared.CountAnswer.{CountAnswer}
 use Rattle.ground.specs.declared.CountAnswer.the-variants.{Done, Refused}
 use Rattle.receiver.specs.Receivers.{receiverOk}
@@ -16,18 +16,33 @@ use Rattle.receiver.specs.Bytes.{eventBytes}
 use Rattle.receiver.specs.declared.Given.{Given}
 use Rattle.receiver.specs.declared.Given.the-variants.{No, Yes}
 use Rattle.receiver.specs.declared.Receiver.{Receiver}
-use Rattle.plan.specs.declared.Act.{Act}
-use Rattle.record.specs.Layout.{recordAt, put}
-use Rattle.record.specs.ModuleTable.{tableOk, stepRecord}
-use Rattle.record.specs.declared.House.{House}
-use Rattle.room.specs.Rooms.{Room}
+use Rattle.room.specs.declared.RoomAnswer.{RoomAnswer}
+use Rattle.room.specs.declared.RoomAnswer.the-variants.{Done as Told, Refused as NotTold}
+use Rattle.room.specs.declared.RoomJudged.{RoomJudged}
+use Rattle.room.specs.declared.RoomJudged.the-variants.{Fine, Refused as Faulty}
+use Rattle.room.specs.Rooms.{Room, roomOk}
+use Rattle.room.specs.Routes.{roomCauses}
 use Rattle.room.specs.Mains.{answerGiven, answerBytes, roomHeard, answersHeard}
 
--- record i is stepped as that of unit n, and the answer is 1 where its level changed
-pub record Stepped (a : Act) (own : House) (n i : ℕ) (before after : List ℕ) (answer : ℕ) : Type 0 where
-  pub table : after ≡ put before i (stepRecord a own n (recordAt before i))
-  pub count : answer ≡ pick (eqb (recordAt before i .level) (stepRecord a own n (recordAt before i) .level)) 0 1
-  pub small : answer ≤ 1
+-- the second byte of each record of so many bytes, a module's level, a shutter's opening: read and counted only, never put
+abbrev pub seconds : ℕ → Layout ℕ
+seconds size = record { size = size; at = λ t i. getD t (i * size + 1) 0; bytes = λ x. x ∷ [] }
+
+abbrev pub itself : ℕ → ℕ
+itself x = x
+
+-- whether a route can use both tables, or why not
+unfoldable pub roomVerdict : Room → RoomJudged
+roomVerdict room = judged (roomCauses room) Fine Faulty
+
+-- what one of the two tables answers, as the room's answer: in the other nothing has changed
+abbrev pub levelsAnswer : CountAnswer → RoomAnswer
+levelsAnswer (Done n) = Told (record { levels = n; openings = 0 })
+levelsAnswer (Refused why) = NotTold why
+
+abbrev pub openingsAnswer : CountAnswer → RoomAnswer
+openingsAnswer (Done n) = Told (record { levels = 0; openings = n })
+openingsAnswer (Refused why) = NotTold why
 
 -- ---- a stretch of half-cycles
 
@@ -46,11 +61,11 @@ stretchAnswers n given room = replicate (8 * (n - 1)) 0 ++ answerBytes (answerGi
 
 -- ---- all half-cycles from a place on
 
--- the receiver and the table are judged, and both buffers have space
-pub record Prepared (r : Receiver) (halves : List ℕ) (i : ℕ) (table events answers : List ℕ) : Type 0 where
+-- the receiver and both tables are judged, and both buffers have space
+pub record Prepared (r : Receiver) (halves : List ℕ) (i : ℕ) (room : Room) (events answers : List ℕ) : Type 0 where
   pub receiver : receiverOk r ≡ true
   pub place : i ≤ length halves
-  pub rules : tableOk table ≡ true
+  pub rules : roomOk room ≡ true
   pub events-space : 6 * length halves ≤ length events
   pub answers-space : 8 * length halves ≤ length answers
 

@@ -2,5 +2,4 @@ pub mod Rooms
 pub mod Routes
 pub mod Mains
 pub mod Lent
-pub mod Reaches
 pub mod Statements

@@ -1,11 +1,10 @@
 -- The mains route: half-cycles through the receiver in lent bytes, one after the other, and each message that it gives applied to the room
--- before the next. It is given what a receiver is given (receiver's Bytes) and a buffer for what the table answers.
+-- before the next. It is given what a receiver is given (receiver's Bytes) and a buffer for what the tables answer.
 use Prim.Native.Nat.{ℕ, _*_, _/_, _%_, _^_}
-use mathlib.Core.Path.{_≡_}
 use mathlib.Core.List.{List, [], _∷_, _++_, flatMap}
 use lib.Dec.{leb}
 use lib.ListN.{length, drop}
-use Rattle.ground.specs.Refusals.{Report, reports, refuses, Cause, unless, judged, numberGiven, lowest}
+use Rattle.ground.specs.Refusals.{Report, reports, refuses, Cause, unless, judged}
 use Rattle.ground.specs.declared.Refusal.the-variants as refusal
 use Rattle.receiver.specs.declared.Event.{Event}
 use Rattle.receiver.specs.declared.Given.{Given}
@@ -13,7 +12,7 @@ use Rattle.receiver.specs.declared.Given.the-variants.{No, Yes}
 use Rattle.receiver.specs.Hearing.{givenBy}
 use Rattle.wire.specs.Packed.{packed}
 use Rattle.receiver.specs.Bytes.{holdsReceiver, eventBytes, eventsHeard, bytesAfter}
-use Rattle.room.specs.Rooms.{Room, changes, roomAfter, applyAnswer, tallied}
+use Rattle.room.specs.Rooms.{Room, changes, countsOf, roomAfter, applyAnswer, tallied}
 use Rattle.room.specs.Routes.{roomCauses}
 use Rattle.room.specs.declared.RoomAnswer.{RoomAnswer}
 use Rattle.room.specs.declared.RoomAnswer.the-variants.{Done, Refused}
@@ -25,7 +24,7 @@ abbrev pub roomGiven : Given → Room → Room
 roomGiven No room = room
 roomGiven (Yes m) room = roomAfter m room
 
--- what the table answers to it, as one number: 0 where there is no message, and 4 for one that is not carried
+-- what the tables answer to it, as one number: 0 where there is no message; else 0 with both counts, 4 where it is not carried, 18 for an opening above 25
 abbrev pub answerGiven : Given → Room → ℕ
 answerGiven No room = 0
 answerGiven (Yes m) room = packed (tallied (applyAnswer m room))
@@ -48,7 +47,7 @@ answersHeard (e ∷ es) room = answerBytes (answerGiven (givenBy e) room) ++ ans
 
 -- ---- a call
 
--- what is lent beside the table
+-- what is lent beside the tables
 pub record Lending : Type 0 where
   pub state : List ℕ
   pub halves : List ℕ
@@ -66,7 +65,7 @@ lentCauses l =
     ∷ unless (leb (6 * length (l .halves)) (length (l .events))) refusal.Short
     ∷ []
 
--- 1 and 3, and these
+-- 1, 16, 3 and 17, and these
 abbrev pub mainsCauses : Lending → Room → List Cause
 mainsCauses l room = roomCauses room ++ lentCauses l
 
@@ -77,19 +76,19 @@ heard l = eventsHeard (l .state) (l .halves)
 abbrev pub mainsRoom : Lending → Room → Room
 mainsRoom l room = roomHeard (heard l) room
 
--- the answer: the count is over the whole call, and a message that is not carried is no refusal of it
+-- the answer: the counts are over the whole call, and a message that is not carried is no refusal of it
 unfoldable pub mainsAnswer : Lending → Room → RoomAnswer
 mainsAnswer l room = judged (mainsCauses l room) (Done (changes room (mainsRoom l room))) Refused
 
--- its number and count
+-- its number and counts
 abbrev pub mainsReport : Lending → Room → Report ℕ
-mainsReport l room = judged (mainsCauses l room) (reports (changes room (mainsRoom l room) .levels ∷ [])) refuses
+mainsReport l room = judged (mainsCauses l room) (reports (countsOf (changes room (mainsRoom l room)))) refuses
 
 -- the room that is left
 unfoldable pub mainsAfter : Lending → Room → Room
 mainsAfter l room = judged (mainsCauses l room) (mainsRoom l room) (λ why. room)
 
--- and what else is lent: the receiver after the last half-cycle, its events and the table's answers; bytes beyond them stay
+-- and what else is lent: the receiver after the last half-cycle, its events and the tables' answers; bytes beyond them stay
 abbrev pub mainsLent : Lending → Room → Lending
 mainsLent l room = record {
   state = bytesAfter (l .state) (l .halves);
@@ -100,7 +99,3 @@ mainsLent l room = record {
 
 unfoldable pub lentAfter : Lending → Room → Lending
 lentAfter l room = judged (mainsCauses l room) (mainsLent l room) (λ why. l)
-
--- "Within one routine the lowest number that applies is given.": proofs/MainsLaws.antt
-abbrev pub MainsLowest : Type 0
-MainsLowest = (l : Lending) (room : Room) → lowest (mainsCauses l room) ≡ numberGiven (mainsCauses l room)

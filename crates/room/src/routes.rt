@@ -1,68 +1,68 @@
-// Two routes into a room: by radio, four bytes through the reader; on the mains, half-cycles through the receiver.
+// The radio route: four bytes through the reader, and the messages that they mean applied to the room. The mains route is in mains.rt.
 use crate::Changes;
 use crate::RoomAnswer;
+use crate::RoomJudged;
 use crate::apply_valid;
-use crate::table;
-use ground::Refusal;
+use crate::judge;
 use radio::RadioCommand;
 use radio::RadioMessages;
 use radio::RadioRead;
 use radio::messages;
 use radio::read;
-use record::TABLE_BYTES;
 ghost use mathlib.Core.Path.{_≡_};
 ghost use mathlib.Core.Bool.{true};
 ghost use Rattle.radio.specs.Codes.{commandOk};
 ghost use Rattle.radio.specs.Answers.{messagesOf};
-ghost use Rattle.record.specs.ModuleTable.{tableOk};
-ghost use Rattle.room.specs.Rooms.{roomOf, changes, roomReport, levelsOf};
+ghost use Rattle.room.specs.Rooms.{roomOf, roomOk, changes, roomReport, changesOf};
 ghost use Rattle.room.specs.Routes.{roomAfterAll, radioAfter, radioAnswer, radioReport};
 
-// How many modules have another level than before.
-fn levels_of(a: RoomAnswer) -> usize
-    ensures { λ r. ⌜ r ≡ levelsOf a ⌝ }
+// What has changed, by the answer; nothing where it is a refusal.
+fn changes_of(a: RoomAnswer) -> Changes
+    ensures { λ r. ⌜ r ≡ changesOf a ⌝ }
 {
     match a {
-        RoomAnswer::Done(c) => c.levels,
-        RoomAnswer::Refused(_) => 0,
+        RoomAnswer::Done(c) => c,
+        RoomAnswer::Refused(_) => Changes {
+            levels: 0,
+            openings: 0,
+        },
     }
 }
 
-// Applies the messages of a radio command. An address changes no level, so the last message's count is that of both.
-fn obey(table: &mut [u8], k: RadioCommand) -> Changes
-    requires { ⌜ (tableOk (now table) ≡ true) × (commandOk k ≡ true) ⌝ }
-    ensures { λ r. ⌜ r ≡ changes (roomOf (now (table .entry))) (roomOf (now (table .exit))) ⌝ }
-    ensures { λ _. ⌜ roomOf (now (table .exit)) ≡ roomAfterAll (messagesOf k) (roomOf (now (table .entry))) ⌝ }
+// Applies the messages of a radio command. An address changes no level and no opening, so the last message's counts are those of both.
+fn obey(table: &mut [u8], shutters: &mut [u8], k: RadioCommand) -> Changes
+    requires { ⌜ (roomOk (roomOf (now table) (now shutters)) ≡ true) × (commandOk k ≡ true) ⌝ }
+    ensures { λ r. ⌜ r ≡ changes (roomOf (now (table .entry)) (now (shutters .entry))) (roomOf (now (table .exit)) (now (shutters .exit))) ⌝ }
+    ensures { λ _.
+        ⌜ roomOf (now (table .exit)) (now (shutters .exit)) ≡ roomAfterAll (messagesOf k) (roomOf (now (table .entry)) (now (shutters .entry))) ⌝ }
 {
     match messages(k) {
         RadioMessages::Two(first, second) => {
-            apply_valid(table, first);
-            Changes {
-                levels: levels_of(apply_valid(table, second)),
-            }
+            apply_valid(table, shutters, first);
+            changes_of(apply_valid(table, shutters, second))
         }
-        RadioMessages::One(only) => Changes {
-            levels: levels_of(apply_valid(table, only)),
+        RadioMessages::One(only) => changes_of(apply_valid(table, shutters, only)),
+        RadioMessages::Refused(_) => Changes {
+            levels: 0,
+            openings: 0,
         },
-        RadioMessages::Refused(_) => Changes { levels: 0 },
     }
 }
 
-// Applies what a radio code means to a module table, both messages or none, and answers how many modules have another level than
-// before. Refused, it leaves the table as it is.
-pub fn radio_route(table: &mut [u8], code: &[u8]) -> RoomAnswer
-    ensures answer { λ r. ⌜ r ≡ radioAnswer (now (code .entry)) (roomOf (now (table .entry))) ⌝ }
-    ensures report { λ r. ⌜ roomReport r ≡ radioReport (now (code .entry)) (roomOf (now (table .entry))) ⌝ }
-    ensures room { λ _. ⌜ roomOf (now (table .exit)) ≡ radioAfter (now (code .entry)) (roomOf (now (table .entry))) ⌝ }
+// Applies what a radio code means to a room's tables, both messages or none, and answers how many modules have another level and how many
+// shutters another opening than before. Refused, it leaves them as they are.
+// Refused, in this order: 1, 16, 3, 17, 12, 13, 14.
+pub fn radio_route(table: &mut [u8], shutters: &mut [u8], code: &[u8]) -> RoomAnswer
+    ensures answer { λ r. ⌜ r ≡ radioAnswer (now (code .entry)) (roomOf (now (table .entry)) (now (shutters .entry))) ⌝ }
+    ensures report { λ r. ⌜ roomReport r ≡ radioReport (now (code .entry)) (roomOf (now (table .entry)) (now (shutters .entry))) ⌝ }
+    ensures room { λ _.
+        ⌜ roomOf (now (table .exit)) (now (shutters .exit)) ≡ radioAfter (now (code .entry)) (roomOf (now (table .entry)) (now (shutters .entry))) ⌝ }
 {
-    if table.len() != TABLE_BYTES {
-        return RoomAnswer::Refused(Refusal::Table);
-    }
-    if !table::valid(table) {
-        return RoomAnswer::Refused(Refusal::Record);
-    }
-    match read(code) {
-        RadioRead::Command(k) => RoomAnswer::Done(obey(table, k)),
-        RadioRead::Refused(why) => RoomAnswer::Refused(why),
+    match judge(table, shutters) {
+        RoomJudged::Refused(why) => RoomAnswer::Refused(why),
+        RoomJudged::Fine => match read(code) {
+            RadioRead::Command(k) => RoomAnswer::Done(obey(table, shutters, k)),
+            RadioRead::Refused(why) => RoomAnswer::Refused(why),
+        },
     }
 }

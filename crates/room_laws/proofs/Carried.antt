@@ -6,16 +6,16 @@
 --     demand-2, no-more         the theorems of specs/Demand2.antt
 use mathlib.Core.Path.{_≡_, refl, sym, ap, ap₂, _∙_}
 use mathlib.Core.Bool.{Bool, true, false, true≢false}
-use mathlib.Core.List.{List, [], _∷_, _++_, append-assoc, flatMap}
+use mathlib.Core.List.{List, [], _∷_, _++_, flatMap}
 use Prim.Native.Nat.{ℕ, _+_, _*_, _/_, _%_, _^_, _≤_, _<_}
 use native.Mathlib.Omega.{arith}
-use native.Mathlib.Nat.{zero-add, add-assoc, div-eq-of-lt}
+use native.Mathlib.Nat.{zero-add, add-zero, add-assoc, mod-eq-of-lt, div-eq-of-lt, div-add-mod', div-div-eq-div-mul}
 use lib.Dec.{leb}
 use lib.ListN.{length, drop}
 use Rattle.ground.specs.Refusals.{refusalNumber, Cause, judged}
 use Rattle.ground.specs.declared.Refusal.{Refusal}
 use Rattle.ground.specs.declared.Refusal.the-variants as refusal
-use Rattle.ground.proofs.Causes.{judged-map}
+use Rattle.ground.proofs.Causes.{judged-map, judged-append, judged-same, judged-holds, nothing-refused}
 use Rattle.message.specs.declared.Function.{Function}
 use Rattle.message.specs.declared.Message.{Message}
 use Rattle.message.specs.declared.Message.the-variants.{Address, Function as Command}
@@ -31,38 +31,49 @@ use Rattle.radio.specs.Codes.{commandOf}
 use Rattle.radio.specs.Answers.{readCauses, messagesOf}
 use Rattle.radio.specs.declared.RadioCommand.{RadioCommand}
 use Rattle.radio.specs.declared.RadioCommand.the-variants.{On, Off, Bright, Dim}
-use Rattle.record.specs.Layout.{UNITS, RECORDS}
-use Rattle.record.specs.ModuleTable.{changed}
-use Rattle.room.specs.Rooms.{Room, roomLong, roomOk, changes, roomAfter, applyAnswer, levelsOf, tallied}
+use Rattle.room.specs.Rooms.{Room, roomOk, changes, roomAfter, applyAnswer, changesOf, tallied}
 use Rattle.room.specs.Routes.{roomAfterAll, roomCauses, radioAfter, radioAnswer}
-use Rattle.room.specs.Mains.{roomGiven, answerGiven, answerBytes, roomHeard, answersHeard, Lending, heard, mainsAfter}
-use Rattle.room.specs.declared.RoomAnswer.{RoomAnswer}
+use Rattle.room.specs.Mains.{roomGiven, answerGiven, answerBytes, roomHeard, answersHeard, Lending, heard, lentCauses, mainsAfter}
+use Rattle.room.specs.declared.Changes.{Changes}
 use Rattle.room.specs.declared.RoomAnswer.the-variants.{Done, Refused}
-use Rattle.room.proofs.TableLaws.{changed-none}
-use Rattle.room.proofs.HouseLaws.{whole}
-use Rattle.room.proofs.ApplyLaws.{Outcome, stays, did, outcome, valid-stays, count-is}
-use Rattle.room.proofs.Levels.{address-levels, levels-count}
-use Rattle.room_laws.specs.Demand2.{Route, radio, mains, meantBy, carries, radioLeaves, leaves, radioCounts, numberIn, countsIn, counts}
-use Rattle.room_laws.specs.Demand2.{Demand2, NoMoreThanMessages}
-use Rattle.room_laws.proofs.Theorems.{count-at-most-16}
+use Rattle.room.proofs.ApplyLaws.{Outcome, stays, did, moved, outcome, Valid, valid-parts, room-fine, fine-room, valid-stays, unchanged, counts-are}
+use Rattle.room.proofs.Levels.{address-counts}
+use Rattle.room_laws.specs.Demand2.{Route, radio, mains, meantBy, carries, radioLeaves, leaves, noChanges, added, radioCounts, numberIn}
+use Rattle.room_laws.specs.Demand2.{changesIn, countsIn, counts, Demand2, NoMoreThanMessages}
+use Rattle.room_laws.proofs.Theorems.{count-at-most-256}
 
 -- ---- messages applied one after the other
 
-unfoldable pub countAll : List Message → Room → ℕ
-countAll [] room = 0
-countAll (m ∷ ms) room = levelsOf (applyAnswer m room) + countAll ms (roomAfter m room)
+counts-same : {a b c d : ℕ} → a ≡ b → c ≡ d → _≡_ {A = Changes} (record { levels = a; openings = c }) (record { levels = b; openings = d })
+counts-same p q = rw (p, q)
+
+unfoldable pub countAll : List Message → Room → Changes
+countAll [] room = noChanges
+countAll (m ∷ ms) room = added (changesOf (applyAnswer m room)) (countAll ms (roomAfter m room))
+
+-- counts added up
+none-added : (c : Changes) → added noChanges c ≡ c
+none-added c = counts-same (zero-add (c .levels)) (zero-add (c .openings))
+
+added-none : (c : Changes) → added c noChanges ≡ c
+added-none c = counts-same (add-zero (c .levels)) (add-zero (c .openings))
+
+added-assoc : (c d e : Changes) → added (added c d) e ≡ added c (added d e)
+added-assoc c d e = counts-same (add-assoc (c .levels) (d .levels) (e .levels)) (add-assoc (c .openings) (d .openings) (e .openings))
 
 -- of a room, what is left and counted is what messages leave and count
-abbrev As : List Message → Room → Room → ℕ → Type 0
+abbrev As : List Message → Room → Room → Changes → Type 0
 As ms room left n = (left ≡ roomAfterAll ms room) × (n ≡ countAll ms room)
 
 -- some messages, and then others
-as-append : (ms ns : List Message) (room left : Room) (n : ℕ) → As ns (roomAfterAll ms room) left n → As (ms ++ ns) room left (countAll ms room + n)
+as-append : (ms ns : List Message) (room left : Room) (n : Changes) → As ns (roomAfterAll ms room) left n
+    → As (ms ++ ns) room left (added (countAll ms room) n)
 unfolding roomAfterAll countAll
-as-append [] ns room left n p = (p .0, zero-add n ∙ p .1)
+as-append [] ns room left n p = (p .0, none-added n ∙ p .1)
 as-append (m ∷ ms) ns room left n p =
     let q = as-append ms ns (roomAfter m room) left n p in
-    (q .0, add-assoc (levelsOf (applyAnswer m room)) (countAll ms (roomAfter m room)) n ∙ ap (λ x. levelsOf (applyAnswer m room) + x) (q .1))
+    let first = changesOf (applyAnswer m room) in
+    (q .0, added-assoc first (countAll ms (roomAfter m room)) n ∙ ap (added first) (q .1))
 
 pub all-stay : (ms : List Message) (room : Room) → roomOk room ≡ true → roomOk (roomAfterAll ms room) ≡ true
 unfolding roomAfterAll
@@ -70,76 +81,76 @@ all-stay [] room ok = ok
 all-stay (m ∷ ms) room ok = all-stay ms (roomAfter m room) (valid-stays m room ok)
 
 -- of a room that breaks a rule nothing is changed
-one-refused : (m : Message) (room : Room) → roomOk room ≡ false → (roomAfter m room ≡ room) × (levelsOf (applyAnswer m room) ≡ 0)
+one-refused : (m : Message) (room : Room) → roomOk room ≡ false → (roomAfter m room ≡ room) × (changesOf (applyAnswer m room) ≡ noChanges)
 one-refused m room broken = go (outcome m room)
   where
-    go : Outcome m room → (roomAfter m room ≡ room) × (levelsOf (applyAnswer m room) ≡ 0)
+    go : Outcome m room → (roomAfter m room ≡ room) × (changesOf (applyAnswer m room) ≡ noChanges)
     go (stays why e same) = (same, rw e)
     go (did a r) = absurd (true≢false (sym (r .ok) ∙ broken))
+    go (moved a r) = absurd (true≢false (sym (r .ok) ∙ broken))
 
-all-refused : (ms : List Message) (room : Room) → roomOk room ≡ false → As ms room room 0
+all-refused : (ms : List Message) (room : Room) → roomOk room ≡ false → As ms room room noChanges
 unfolding roomAfterAll countAll
 all-refused [] room broken = (refl, refl)
 all-refused (m ∷ ms) room broken =
     let one = one-refused m room broken in
-    rw (one .0, one .1, zero-add (countAll ms room)) (all-refused ms room broken)
+    rw (one .0, one .1, none-added (countAll ms room)) (all-refused ms room broken)
 
 -- ---- one code
 
--- an address changes no level, so what is counted over an address and a function is the function's count
+-- an address changes no level and no opening, so what is counted over an address and a function is the function's count
 count-two : (h u : ℕ) (f : Function) (room : Room)
-    → changes room (roomAfterAll (Address h u ∷ Command h f ∷ []) room) .levels ≡ countAll (Address h u ∷ Command h f ∷ []) room
+    → changes room (roomAfterAll (Address h u ∷ Command h f ∷ []) room) ≡ countAll (Address h u ∷ Command h f ∷ []) room
 unfolding roomAfterAll countAll
 count-two h u f room =
     let s = roomAfter (Address h u) room in
     let v = roomAfter (Command h f) s in
-    let first : levelsOf (applyAnswer (Address h u) room) ≡ 0 =
-    count-is (Address h u) room
-    ∙ levels-count RECORDS (room .modules) (s .modules) (s .modules) (λ i l. sym (address-levels h u room i l))
-    ∙ changed-none RECORDS (s .modules) in
-    let second : levelsOf (applyAnswer (Command h f) s) ≡ changed RECORDS (room .modules) (v .modules) =
-    count-is (Command h f) s ∙ levels-count RECORDS (s .modules) (room .modules) (v .modules) (address-levels h u room) in
-    omega arith
+    let first : changesOf (applyAnswer (Address h u) room) ≡ noChanges = counts-are (Address h u) room ∙ sym (address-counts h u room s) ∙ unchanged s in
+    let second : changesOf (applyAnswer (Command h f) s) ≡ changes room v = counts-are (Command h f) s ∙ address-counts h u room v in
+    rw (first, second) (sym (none-added (added (changes room v) noChanges) ∙ added-none (changes room v)))
 
-count-one : (m : Message) (room : Room) → changes room (roomAfterAll (m ∷ []) room) .levels ≡ countAll (m ∷ []) room
+count-one : (m : Message) (room : Room) → changes room (roomAfterAll (m ∷ []) room) ≡ countAll (m ∷ []) room
 unfolding roomAfterAll countAll
-count-one m room = omega (arith, count-is m room)
+count-one m room = sym (added-none (changesOf (applyAnswer m room)) ∙ counts-are m room)
 
-count-command : (k : RadioCommand) (room : Room) → changes room (roomAfterAll (messagesOf k) room) .levels ≡ countAll (messagesOf k) room
+count-command : (k : RadioCommand) (room : Room) → changes room (roomAfterAll (messagesOf k) room) ≡ countAll (messagesOf k) room
 count-command (On h u) room = count-two h u _ room
 count-command (Off h u) room = count-two h u _ room
 count-command (Bright h) room = count-one _ room
 count-command (Dim h) room = count-one _ room
 
 -- a valid room is judged by what comes next
-pub long : (room : Room) → roomOk room ≡ true → roomLong room ≡ true
-long room ok = whole (room .modules) ok .long
-
 past-room : {A : Type 0} (room : Room) → roomOk room ≡ true → (cs : List Cause) (done : A) (refused : Refusal → A)
     → judged (roomCauses room ++ cs) done refused ≡ judged cs done refused
-unfolding judged
-past-room room ok cs done refused = rw (long room ok, ok)
+past-room room ok cs done refused =
+    judged-append done refused (roomCauses room) cs ∙ nothing-refused (judged cs done refused) refused (roomCauses room) (room-fine room ok)
 
-code-carried : (code : List ℕ) (room : Room) → roomOk room ≡ true → As (meantBy code) room (radioAfter code room) (levelsOf (radioAnswer code room))
+-- and by a room that is not, everything is refused: what is left and counted is what a refusal leaves and counts
+broken-room : {A : Type 0} (room : Room) → roomOk room ≡ false → (cs : List Cause) (done same : A) → judged (roomCauses room ++ cs) done (λ why. same) ≡ same
+broken-room room broken cs done same =
+    judged-append done (λ why. same) (roomCauses room) cs
+    ∙ judged-same (λ why. same) (roomCauses room) (λ none. absurd (true≢false (sym (fine-room room none) ∙ broken)))
+    ∙ judged-holds (λ y. y ≡ same) same (λ why. same) (roomCauses room) (λ none. refl) (λ why. refl)
+
+code-carried : (code : List ℕ) (room : Room) → roomOk room ≡ true → As (meantBy code) room (radioAfter code room) (changesOf (radioAnswer code room))
 unfolding radioAfter radioAnswer meantBy roomAfterAll countAll
 code-carried code room ok =
     let cs = readCauses code in
     let k = commandOf code in
     let left : roomAfterAll (meantBy code) room ≡ judged cs (roomAfterAll (messagesOf k) room) (λ why. room) =
     judged-map (λ (ms : List Message). roomAfterAll ms room) (messagesOf k) (λ why. []) cs in
-    let count : countAll (meantBy code) room ≡ judged cs (countAll (messagesOf k) room) (λ why. 0) =
+    let count : countAll (meantBy code) room ≡ judged cs (countAll (messagesOf k) room) (λ why. noChanges) =
     judged-map (λ (ms : List Message). countAll ms room) (messagesOf k) (λ why. []) cs in
-    let told : levelsOf (radioAnswer code room) ≡ judged cs (changes room (roomAfterAll (messagesOf k) room) .levels) (λ why. 0) =
-    ap levelsOf (past-room room ok cs _ _) ∙ judged-map levelsOf (Done (changes room (roomAfterAll (messagesOf k) room))) Refused cs in
-    (past-room room ok cs _ _ ∙ sym left, told ∙ ap (λ (n : ℕ). judged cs n (λ why. 0)) (count-command k room) ∙ sym count)
+    let told : changesOf (radioAnswer code room) ≡ judged cs (changes room (roomAfterAll (messagesOf k) room)) (λ why. noChanges) =
+    ap changesOf (past-room room ok cs _ _) ∙ judged-map changesOf (Done (changes room (roomAfterAll (messagesOf k) room))) Refused cs in
+    (past-room room ok cs _ _ ∙ sym left, told ∙ ap (λ (n : Changes). judged cs n (λ why. noChanges)) (count-command k room) ∙ sym count)
 
-code-refused : (code : List ℕ) (room : Room) → roomOk room ≡ false → (radioAfter code room ≡ room) × (levelsOf (radioAnswer code room) ≡ 0)
-unfolding radioAfter radioAnswer judged
-code-refused code room broken = go (roomLong room) refl
-  where
-    go : (b : Bool) → roomLong room ≡ b → (radioAfter code room ≡ room) × (levelsOf (radioAnswer code room) ≡ 0)
-    go true e = rw (e, broken) (refl, refl)
-    go false e = rw e (refl, refl)
+code-refused : (code : List ℕ) (room : Room) → roomOk room ≡ false → (radioAfter code room ≡ room) × (changesOf (radioAnswer code room) ≡ noChanges)
+unfolding radioAfter radioAnswer
+code-refused code room broken = (
+  broken-room room broken (readCauses code) _ room,
+  judged-map changesOf _ Refused (roomCauses room ++ readCauses code) ∙ broken-room room broken (readCauses code) _ noChanges,
+)
 
 -- ---- a list of codes
 
@@ -151,12 +162,12 @@ radio-carried (code ∷ codes) room ok =
     let more = radio-carried codes (roomAfterAll (meantBy code) room) (all-stay (meantBy code) room ok) in
     rw (one .0, one .1) (as-append (meantBy code) (flatMap meantBy codes) room _ _ more)
 
-radio-refused : (codes : List (List ℕ)) (room : Room) → roomOk room ≡ false → (radioLeaves codes room ≡ room) × (radioCounts codes room ≡ 0)
+radio-refused : (codes : List (List ℕ)) (room : Room) → roomOk room ≡ false → (radioLeaves codes room ≡ room) × (radioCounts codes room ≡ noChanges)
 unfolding radioLeaves radioCounts
 radio-refused [] room broken = (refl, refl)
 radio-refused (code ∷ codes) room broken =
     let one = code-refused code room broken in
-    rw (one .0, one .1, zero-add (radioCounts codes room)) (radio-refused codes room broken)
+    rw (one .0, one .1, none-added (radioCounts codes room)) (radio-refused codes room broken)
 
 -- ---- events
 
@@ -169,8 +180,8 @@ heard-all (e ∷ es) room = go (givenBy e) (heard-all es)
     go No later = later room
     go (Yes m) later = later (roomAfter m room)
 
--- the count in an answer's eight bytes
-small-number : (why : Refusal) → refusalNumber why ≤ 15
+-- the counts in an answer's eight bytes
+small-number : (why : Refusal) → refusalNumber why ≤ 18
 small-number refusal.Table = omega arith
 small-number refusal.Message = omega arith
 small-number refusal.Record = omega arith
@@ -184,35 +195,60 @@ small-number refusal.RfLength = omega arith
 small-number refusal.Complement = omega arith
 small-number refusal.Code = omega arith
 small-number refusal.Fault = omega arith
+small-number refusal.ShutterTable = omega arith
+small-number refusal.ShutterRecord = omega arith
+small-number refusal.Opening = omega arith
 
--- a number below 2 ^ 16 in eight bytes, and back
-above : (x d : ℕ) → x < 2 ^ 16 → 2 ^ 16 ≤ d → x / d ≡ 0
+-- a number below 2 ^ 40 in eight bytes, and back
+above : (x d : ℕ) → x < 2 ^ 40 → 2 ^ 40 ≤ d → x / d ≡ 0
 above x d small big = div-eq-of-lt (omega arith)
 
-number-back : (x : ℕ) → x < 2 ^ 16 → numberIn (answerBytes x) ≡ x
+-- five digits to the base 256
+digits : (x a b c d k l m n : ℕ) → a * 256 + k ≡ x → b * 256 + l ≡ a → c * 256 + m ≡ b → d * 256 + n ≡ c
+    → k + l * 2 ^ 8 + m * 2 ^ 16 + n * 2 ^ 24 + d * 2 ^ 32 ≡ x
+digits x a b c d k l m n p q r t = omega arith
+
+number-back : (x : ℕ) → x < 2 ^ 40 → numberIn (answerBytes x) ≡ x
 number-back x small =
+    let two : x / 2 ^ 8 / 2 ^ 8 ≡ x / 2 ^ 16 = div-div-eq-div-mul x (2 ^ 8) (2 ^ 8) in
+    let three : x / 2 ^ 16 / 2 ^ 8 ≡ x / 2 ^ 24 = div-div-eq-div-mul x (2 ^ 16) (2 ^ 8) in
+    let four : x / 2 ^ 24 / 2 ^ 8 ≡ x / 2 ^ 32 = div-div-eq-div-mul x (2 ^ 24) (2 ^ 8) in
+    let last : x / 2 ^ 32 % 256 ≡ x / 2 ^ 32 = mod-eq-of-lt (omega arith) in
+    let all = digits x (x / 2 ^ 8) (x / 2 ^ 16) (x / 2 ^ 24) (x / 2 ^ 32) (x % 256) (x / 2 ^ 8 % 256) (x / 2 ^ 16 % 256) (x / 2 ^ 24 % 256)
+    (div-add-mod' x 256) (rw two at (div-add-mod' (x / 2 ^ 8) 256)) (rw three at (div-add-mod' (x / 2 ^ 16) 256))
+    (rw four at (div-add-mod' (x / 2 ^ 24) 256)) in
     rw (
-      above x (2 ^ 16) small (omega arith),
-      above x (2 ^ 24) small (omega arith),
-      above x (2 ^ 32) small (omega arith),
+      last,
       above x (2 ^ 40) small (omega arith),
       above x (2 ^ 48) small (omega arith),
       above x (2 ^ 56) small (omega arith),
     )
-    (omega arith)
+    (simp add-zero all)
 
--- a count of at most 16 and a number of at most 15, as one number and back
-counted-back : (n k : ℕ) → n ≤ 16 → k ≤ 15 → numberIn (answerBytes (n % 2 ^ 56 * 256 + k)) / 2 ^ 8 ≡ n
-counted-back n k few small =
-    let low : n % 2 ^ 56 ≡ n = omega arith in
-    rw (low, number-back (n * 256 + k) (omega arith)) (omega arith)
+-- counts of at most 256 and a number of at most 18, as one number and back
+counted-back : (n m k : ℕ) → n ≤ 256 → m ≤ 256 → k ≤ 18
+    → changesIn (answerBytes ((n % 2 ^ 16 + m % 2 ^ 16 * 2 ^ 16) % 2 ^ 56 * 256 + k)) ≡ record { levels = n; openings = m }
+counted-back n m k few shut small =
+    let low : (n % 2 ^ 16 + m % 2 ^ 16 * 2 ^ 16) % 2 ^ 56 * 256 + k ≡ n * 2 ^ 8 + m * 2 ^ 24 + k = omega arith in
+    let levels : (n * 2 ^ 8 + m * 2 ^ 24 + k) / 2 ^ 8 ≡ n + m * 2 ^ 16 = omega arith in
+    let openings : (n * 2 ^ 8 + m * 2 ^ 24 + k) / 2 ^ 24 ≡ m = omega arith in
+    let first : (n + m * 2 ^ 16) % 2 ^ 16 ≡ n = omega arith in
+    let second : m % 2 ^ 16 ≡ m = omega arith in
+    rw (low, number-back (n * 2 ^ 8 + m * 2 ^ 24 + k) (omega arith), levels, openings) (counts-same first second)
 
-answer-counts : (m : Message) (room : Room) → numberIn (answerBytes (answerGiven (Yes m) room)) / 2 ^ 8 ≡ levelsOf (applyAnswer m room)
-answer-counts m room = go (applyAnswer m room) (count-at-most-16 m room)
+answer-counts : (m : Message) (room : Room) → changesIn (answerBytes (answerGiven (Yes m) room)) ≡ changesOf (applyAnswer m room)
+answer-counts m room = go (outcome m room)
   where
-    go : (a : RoomAnswer) → levelsOf a ≤ UNITS → numberIn (answerBytes (packed (tallied a))) / 2 ^ 8 ≡ levelsOf a
-    go (Done c) few = counted-back (c .levels) 0 few (omega arith)
-    go (Refused why) few = counted-back 0 (refusalNumber why) (omega arith) (small-number why)
+    -- counts between two rooms
+    counted : (before after : Room) → changesIn (answerBytes (packed (tallied (Done (changes before after))))) ≡ changes before after
+    counted before after =
+        let most = count-at-most-256 before after in
+        counted-back (changes before after .levels) (changes before after .openings) 0 (most .0) (most .1) (omega arith)
+
+    go : Outcome m room → changesIn (answerBytes (answerGiven (Yes m) room)) ≡ changesOf (applyAnswer m room)
+    go (stays why e same) = rw e (counted-back 0 0 (refusalNumber why) (omega arith) (omega arith) (small-number why))
+    go (did a r) = rw (r .answer) (counted room (roomAfter m room))
+    go (moved a r) = rw (r .answer) (counted room (roomAfter m room))
 
 -- answers one after the other
 counts-heard : (es : List Event) (room : Room) (rest : List ℕ) → countsIn (length es) (answersHeard es room ++ rest) ≡ countAll (told es) room
@@ -221,21 +257,17 @@ counts-heard [] room rest = refl
 counts-heard (e ∷ es) room rest = go (givenBy e) (λ q. counts-heard es q rest)
   where
     go : (g : Given) → ((q : Room) → countsIn (length es) (answersHeard es q ++ rest) ≡ countAll (told es) q)
-        → numberIn (answerBytes (answerGiven g room)) / 2 ^ 8 + countsIn (length es) (answersHeard es (roomGiven g room) ++ rest) ≡ countAll
-        (asList g ++ told es) room
-    go No later = zero-add _ ∙ later room
-    go (Yes m) later = ap₂ _+_ (answer-counts m room) (later (roomAfter m room))
+        → added (changesIn (answerBytes (answerGiven g room))) (countsIn (length es) (answersHeard es (roomGiven g room) ++ rest))
+        ≡ countAll (asList g ++ told es) room
+    go No later = none-added _ ∙ later room
+    go (Yes m) later = ap₂ added (answer-counts m room) (later (roomAfter m room))
 
 -- ---- a call on the mains
 
 module _ (l : Lending) (room : Room) where
-  mains-refused : roomOk room ≡ false → (leaves (mains l) room ≡ room) × (counts (mains l) room ≡ 0)
-  unfolding mainsAfter judged
-  mains-refused broken = go (roomLong room) refl
-    where
-      go : (b : Bool) → roomLong room ≡ b → (leaves (mains l) room ≡ room) × (counts (mains l) room ≡ 0)
-      go true e = rw (e, broken) (refl, refl)
-      go false e = rw e (refl, refl)
+  mains-refused : roomOk room ≡ false → (leaves (mains l) room ≡ room) × (counts (mains l) room ≡ noChanges)
+  unfolding mainsAfter
+  mains-refused broken = (broken-room room broken (lentCauses l) _ room, broken-room room broken (lentCauses l) _ noChanges)
 
   mains-carried : roomOk room ≡ true → As (carries (mains l)) room (leaves (mains l) room) (counts (mains l) room)
   unfolding mainsAfter judged told roomAfterAll countAll
@@ -243,23 +275,27 @@ module _ (l : Lending) (room : Room) where
       let n = length (l .halves) in
       go (holdsReceiver (l .state)) refl (leb (8 * n) (length (l .answers))) refl (leb (6 * n) (length (l .events))) refl
     where
+      v : Valid room
+      v = valid-parts room ok
+
       go : (a : Bool) → holdsReceiver (l .state) ≡ a → (b : Bool) → leb (8 * length (l .halves)) (length (l .answers)) ≡ b
           → (c : Bool) → leb (6 * length (l .halves)) (length (l .events)) ≡ c → As (carries (mains l)) room (leaves (mains l) room) (counts (mains l) room)
       go true holds true wide true fits =
           let es = heard l in
           let rest = drop (8 * length (l .halves)) (l .answers) in
-          rw (long room ok, ok, holds, wide, fits) (
+          rw (v .modules-long, v .shutters-long, v .modules-valid, v .shutters-valid, holds, wide, fits) (
             heard-all es room,
             ap (λ (n : ℕ). countsIn n (answersHeard es room ++ rest)) (sym (heard-length (l .state) (l .halves) holds))
                 ∙ counts-heard es room rest,
           )
-      go true holds true wide false short = rw (long room ok, ok, holds, wide, short) (refl, refl)
-      go true holds false short c fits = rw (long room ok, ok, holds, short) (refl, refl)
-      go false none b wide c fits = rw (long room ok, ok, none) (refl, refl)
+      go true holds true wide false short =
+          rw (v .modules-long, v .shutters-long, v .modules-valid, v .shutters-valid, holds, wide, short) (refl, refl)
+      go true holds false short c fits = rw (v .modules-long, v .shutters-long, v .modules-valid, v .shutters-valid, holds, short) (refl, refl)
+      go false none b wide c fits = rw (v .modules-long, v .shutters-long, v .modules-valid, v .shutters-valid, none) (refl, refl)
 
 -- ---- a route
 
-route-refused : (a : Route) (room : Room) → roomOk room ≡ false → (leaves a room ≡ room) × (counts a room ≡ 0)
+route-refused : (a : Route) (room : Room) → roomOk room ≡ false → (leaves a room ≡ room) × (counts a room ≡ noChanges)
 route-refused (radio codes) room broken = radio-refused codes room broken
 route-refused (mains l) room broken = mains-refused l room broken
 

@@ -4,3 +4,4 @@ pub mod Carried
 pub mod Bursts
 pub mod Press
 pub mod Slices
+pub mod Limits

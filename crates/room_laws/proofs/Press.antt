@@ -15,7 +15,7 @@ use Rattle.message.specs.declared.Function.the-variants.{On, Off}
 use Rattle.message.specs.declared.Message.{Message}
 use Rattle.message.specs.declared.Message.the-variants.{Address as Calls, Function as Command}
 use Rattle.radio.specs.declared.RadioCommand.the-variants.{On as RadioOn}
-use Rattle.plan.specs.Plans.{carried}
+use Rattle.plan.specs.Plans.{planOf, carried, fits}
 use Rattle.plan.specs.declared.Act.the-variants.{Address, Obey}
 use Rattle.record.specs.Layout.{UNITS, recordAt, houseAt, present}
 use Rattle.record.specs.ModuleTable.{stepRecord}
@@ -23,12 +23,12 @@ use Rattle.record.specs.declared.Record.{Record}
 use Rattle.record.specs.declared.House.{House}
 use Rattle.room.specs.Rooms.{Room, roomOk, roomAfter, applyAnswer, roomReport}
 use Rattle.room.specs.Routes.{roomAfterAll}
-use Rattle.room.proofs.ApplyLaws.{valid-stays}
+use Rattle.room.proofs.ApplyLaws.{valid-parts, valid-stays}
 use Rattle.room_laws.specs.Statements.{ByPlan}
 use Rattle.room_laws.specs.Demand2.{leaves, after}
 use Rattle.room_laws.specs.Press.{byRadio, darkens, Press, Recall}
 use Rattle.room_laws.proofs.Theorems.{record-by-record}
-use Rattle.room_laws.proofs.Carried.{long, no-more}
+use Rattle.room_laws.proofs.Carried.{no-more}
 use Rattle.room_laws.proofs.Bursts.{codes-carry, bursts-as-codes}
 
 -- ---- the record of a unit
@@ -70,10 +70,12 @@ stays-as-it-is x y e = rw e (go (eqb x 0))
 -- ---- in the room
 
 -- a message of the house, carried out in a valid room
-done : (m : Message) (room : Room) → roomOk room ≡ true → messageOk m ≡ true → carried m ≡ true → ByPlan m room
+done : (m : Message) (room : Room) → roomOk room ≡ true → messageOk m ≡ true → carried m ≡ true → fits (planOf m) ≡ true → ByPlan m room
 unfolding applyAnswer judged
-done m room ok good runs =
-    let none : roomReport (applyAnswer m room) .number ≡ 0 = simp (long room ok, good, ok, runs) in
+done m room ok good runs fit =
+    let v = valid-parts room ok in
+    let none : roomReport (applyAnswer m room) .number ≡ 0 =
+    simp (v .modules-long, v .shutters-long, good, v .modules-valid, v .shutters-valid, runs, fit) in
     record-by-record m room none
 
 -- the room with unit u addressed, and then lit
@@ -98,21 +100,21 @@ module _ (h u : ℕ) (room : Room) (house : leb h 15 ≡ true) (unit : leb u 15 
 
   lit-heard : ownOf h (lit h u room) .heard ≡ 1
   unfolding lit
-  lit-heard = ap (λ (x : House). x .heard) (done (Command h On) (called h u room) called-ok house refl .house)
+  lit-heard = ap (λ (x : House). x .heard) (done (Command h On) (called h u room) called-ok house refl refl .house)
 
   -- what the press makes of a unit's record, and what Off then makes of it
   lit-record : (n : ℕ) → n < UNITS
       → recordAt (lit h u room .modules) (h * UNITS + n) ≡ pressedOn u (ownOf h room) (ownOf h (called h u room)) n (recordAt (room .modules) (h * UNITS + n))
   unfolding called lit
   lit-record n below =
-      let first = done (Calls h u) room ok (rw (house, unit)) refl .records n below in
-      let second = done (Command h On) (called h u room) called-ok house refl .records n below in
+      let first = done (Calls h u) room ok (rw (house, unit)) refl refl .records n below in
+      let second = done (Command h On) (called h u room) called-ok house refl refl .records n below in
       second ∙ ap (stepRecord (Obey On) (ownOf h (called h u room)) n) first
 
   off-record : (n : ℕ) → n < UNITS
       → recordAt (roomAfter (Command h Off) (lit h u room) .modules) (h * UNITS + n)
       ≡ stepRecord (Obey Off) (ownOf h (lit h u room)) n (recordAt (lit h u room .modules) (h * UNITS + n))
-  off-record n below = done (Command h Off) (lit h u room) lit-ok house refl .records n below
+  off-record n below = done (Command h Off) (lit h u room) lit-ok house refl refl .records n below
 
   darkened : u < UNITS → present (recordAt (room .modules) (h * UNITS + u)) ≡ true → darkens h (lit h u room) (h * UNITS + u) ≡ true
   darkened below here =

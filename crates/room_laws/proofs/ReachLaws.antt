@@ -1,17 +1,11 @@
--- Laws of what an act reaches, and of what it counts.
+-- Laws of what an act reaches.
 --
---     step-changed        at most one level changes a step
 --     step-unreached      a record that an act does not reach stays
-use mathlib.Core.Path.{_≡_, refl, sym, ap}
+use mathlib.Core.Path.{_≡_, refl}
 use mathlib.Core.Bool.{Bool, true, false, _&&_, _||_, true≢false}
-use mathlib.Core.List.{List}
-use Prim.Native.Nat.{ℕ, zero, suc, _+_, _*_, _≤_, _<_}
-use native.Mathlib.Nat.{add-zero}
-use native.Mathlib.Omega.{arith}
+use Prim.Native.Nat.{ℕ}
 use lib.Dec.{eqb}
-use lib.ListN.{length, getD}
 use Rattle.ground.specs.Choice.{pick}
-use Rattle.ground.proofs.Choices.{pick-both}
 use Rattle.message.specs.declared.Function.{Function}
 use Rattle.message.specs.declared.Function.the-variants.{AllUnitsOff, AllLightsOn, On, Off, Dim, Bright, AllLightsOff, HailRequest, HailAcknowledge}
 use Rattle.message.specs.declared.Function.the-variants.{StatusOn, StatusOff, StatusRequest}
@@ -20,25 +14,10 @@ use Rattle.plan.specs.declared.Act.the-variants.{Nothing, Address, Obey, Join, 
 use Rattle.plan.specs.declared.Act.the-variants.{GroupDim, GroupBright}
 use Rattle.record.specs.declared.Record.{Record}
 use Rattle.record.specs.declared.House.{House}
-use Rattle.record.specs.Layout.{RECORD-BYTES, UNITS, HOUSES, RECORDS, TABLE-BYTES, recordAt, recordBytes, present, lamp, member, preset, withAddressed}
-use Rattle.record.specs.ModuleTable.{relevel, lit, dimmed, brightened, addressed, obeyed, levelFor, joined, left, acted, stepRecord, stepHouse, changed}
-use Rattle.room.proofs.TableLaws.{changed-none, changed-put, length-step, step-other}
-use Rattle.room.proofs.StillLaws.{unlevelled, unchosen}
+use Rattle.record.specs.Layout.{present, lamp, member, preset, withAddressed}
+use Rattle.record.specs.ModuleTable.{lit, dimmed, brightened, addressed, obeyed, levelFor, joined, left, acted, stepRecord}
+use Rattle.module_table.proofs.StillLaws.{unlevelled, unchosen}
 use Rattle.room_laws.specs.Statements.{hears, reaches}
-
-pub step-changed : (a : Act) (own : House) (h : ℕ) (t : List ℕ) (n : ℕ) → n ≤ UNITS → h < HOUSES → length t ≡ TABLE-BYTES
-    → changed RECORDS t (stepHouse n a own h t) ≤ n
-unfolding stepHouse
-step-changed a own h t zero room house size = rw (changed-none RECORDS t) (omega arith)
-step-changed a own h t (suc n) room house size =
-    let s = stepHouse n a own h t in
-    let i = h * UNITS + n in
-    let r = stepRecord a own n (recordAt s i) in
-    let few = step-changed a own h t n (omega arith) house size in
-    let same = eqb (recordAt s i .level) (r .level) in
-    let one : pick same 0 1 ≤ 1 = pick-both (λ x. x ≤ 1) same 0 1 (omega arith) (omega arith) in
-    rw (changed-put RECORDS i t s r (omega arith) (omega (arith, length-step a own h t n)) (sym (step-other a own h t n i (λ k hk e. omega arith))))
-    (omega arith)
 
 -- ---- a record that an act does not reach
 

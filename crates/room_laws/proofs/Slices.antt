@@ -2,26 +2,33 @@
 -- that is refused for its room or its receiver is refused in parts too.
 --
 --     two-calls, one-by-one      the theorems of specs/Slices.antt
-use mathlib.Core.Path.{_≡_, refl, sym, ap, ap₂, _∙_}
-use mathlib.Core.Bool.{Bool, true, false}
+use mathlib.Core.Path.{_≡_, refl, sym, ap, _∙_}
+use mathlib.Core.Bool.{true}
 use mathlib.Core.List.{List, [], _∷_, _++_, append-assoc, append-nil, flatMap}
-use Prim.Native.Nat.{ℕ, zero, suc, _+_, _*_, _≤_}
+use Prim.Native.Nat.{ℕ, zero, suc, _+_, _*_}
+use native.Mathlib.Decide.{ℕ-discrete}
 use native.Mathlib.Omega.{arith}
 use borrow.Author.Tests.{le-leb}
 use lib.Dec.{leb}
 use lib.ListN.{length, take, drop, take-append-drop, length-append, length-take, length-drop}
 use lib.Seq.{drop-drop}
-use Rattle.ground.specs.Refusals.{judged}
+use Rattle.ground.specs.Refusals.{refusalNumber, Cause, unless, judged, numberGiven}
+use Rattle.ground.specs.declared.Refusal.{Refusal}
+use Rattle.ground.specs.declared.Refusal.the-variants as refusal
+use Rattle.ground.proofs.Choices.{both}
+use Rattle.ground.proofs.Causes.{judged-append, judged-map, judged-same, judged-holds, none-stops}
 use Rattle.ground.proofs.Lists.{flat-append}
-use Rattle.receiver.specs.declared.Event.{Event}
 use Rattle.receiver_laws.specs.Inversion.{told}
 use Rattle.receiver.specs.Bytes.{holdsReceiver, eventBytes, eventsHeard, bytesAfter}
 use Rattle.receiver.proofs.ReadBack.{stays-receiver, two-parts}
-use Rattle.room.specs.Rooms.{Room, roomLong, roomOk}
-use Rattle.room.specs.Mains.{roomHeard, answersHeard, mainsAnswer, mainsAfter, lentAfter}
+use Rattle.room.specs.Rooms.{Room, roomOk, roomReport}
+use Rattle.room.specs.Routes.{roomCauses}
+use Rattle.room.specs.Mains.{roomHeard, answersHeard, lentTo, mainsCauses, mainsAnswer, mainsAfter, lentAfter}
+use Rattle.room.specs.declared.RoomAnswer.the-variants.{Refused}
+use Rattle.room.proofs.ApplyLaws.{valid-parts}
 use Rattle.room.proofs.MainsLaws.{room-append, answers-append}
 use Rattle.room_laws.specs.Slices.{Lent, called, inParts, Fits, TwoCalls, singly, OneByOne}
-use Rattle.room_laws.proofs.Carried.{long, heard-all, all-stay}
+use Rattle.room_laws.proofs.Carried.{heard-all, all-stay}
 
 -- ---- lists in two parts
 
@@ -51,28 +58,62 @@ called-done : (hs : List ℕ) (l : Lent) → roomOk (l .room) ≡ true → holds
 unfolding called mainsAnswer mainsAfter lentAfter judged
 called-done hs l ok holds fits =
     let n = length hs in
-    rw (long (l .room) ok, ok, holds, le-leb (8 * n) (length (l .answers)) (fits .1), le-leb (6 * n) (length (l .events)) (fits .0))
+    let v = valid-parts (l .room) ok in
+    rw (
+      v .modules-long,
+      v .shutters-long,
+      v .modules-valid,
+      v .shutters-valid,
+      holds,
+      le-leb (8 * n) (length (l .answers)) (fits .1),
+      le-leb (6 * n) (length (l .events)) (fits .0),
+    )
 
--- why a call is refused, whatever its half-cycles and buffers
-data Bad (room : Room) (state : List ℕ) : Type 0 where
-  table : roomLong room ≡ false → Bad room state
-  rule : roomLong room ≡ true → roomOk room ≡ false → Bad room state
-  receiver : roomOk room ≡ true → holdsReceiver state ≡ false → Bad room state
+-- the causes of a call that do not go by its half-cycles and buffers, and the others
+abbrev front : Room → List ℕ → List Cause
+front room state = roomCauses room ++ (unless (holdsReceiver state) refusal.State ∷ [])
+
+abbrev short : List ℕ → Lent → List Cause
+short hs l =
+    unless (leb (8 * length hs) (length (l .answers))) refusal.Short ∷ unless (leb (6 * length hs) (length (l .events))) refusal.Short ∷ []
+
+-- a call is refused, whatever its half-cycles and buffers
+abbrev Bad : Room → List ℕ → Type 0
+Bad room state = numberGiven (front room state) ≡ 0 → ⊥
+
+-- where none applies, the room is valid and the bytes hold a receiver
+past-front : (room : Room) (state : List ℕ) → numberGiven (front room state) ≡ 0 → (roomOk room ≡ true) × (holdsReceiver state ≡ true)
+past-front room state none =
+    let one = none-stops _ _ _ none in
+    let two = none-stops _ _ _ (one .1) in
+    let three = none-stops _ _ _ (two .1) in
+    let four = none-stops _ _ _ (three .1) in
+    (both (three .0) (four .0), none-stops _ _ _ (four .1) .0)
+
+-- what is then answered and left goes by these causes alone
+by-front : {A : Type 0} (done other : A) (refused : Refusal → A) (hs : List ℕ) (l : Lent) → Bad (l .room) (l .state)
+    → judged (front (l .room) (l .state) ++ short hs l) done refused ≡ judged (front (l .room) (l .state)) other refused
+by-front done other refused hs l bad =
+    judged-append done refused (front (l .room) (l .state)) (short hs l) ∙ judged-same refused (front (l .room) (l .state)) (λ none. absurd (bad none))
+
+-- what is the same either way
+either-way : {A : Type 0} (x : A) (cs : List Cause) → judged cs x (λ why. x) ≡ x
+either-way x cs = judged-holds (λ y. y ≡ x) x (λ why. x) cs (λ none. refl) (λ why. refl)
 
 -- all as it was, and the number of the refusal
 abbrev given : ℕ → Lent → Lent
 given n l = record { number = n; room = l .room; state = l .state; events = l .events; answers = l .answers }
 
-abbrev badNumber : {room : Room} {state : List ℕ} → Bad room state → ℕ
-badNumber (table e) = 1
-badNumber (rule e f) = 3
-badNumber (receiver e f) = 6
-
-called-bad : (hs : List ℕ) (l : Lent) (bad : Bad (l .room) (l .state)) → called hs l ≡ given (badNumber bad) l
-unfolding called mainsAnswer mainsAfter lentAfter judged
-called-bad hs l (table e) = rw e
-called-bad hs l (rule e f) = rw (e, f)
-called-bad hs l (receiver ok none) = rw (long (l .room) ok, ok, none)
+called-bad : (hs : List ℕ) (l : Lent) (bad : Bad (l .room) (l .state)) → called hs l ≡ given (numberGiven (front (l .room) (l .state))) l
+unfolding called mainsAnswer mainsAfter lentAfter
+called-bad hs l bad =
+    let cs = front (l .room) (l .state) in
+    let lent = lentTo (l .state) hs (l .events) (l .answers) in
+    let number : roomReport (mainsAnswer lent (l .room)) .number ≡ numberGiven cs =
+    judged-map (λ a. roomReport a .number) _ Refused (mainsCauses lent (l .room)) ∙ by-front 0 0 refusalNumber hs l bad in
+    let room : mainsAfter lent (l .room) ≡ l .room = by-front _ (l .room) (λ why. l .room) hs l bad ∙ either-way (l .room) cs in
+    let left : lentAfter lent (l .room) ≡ lent = by-front _ lent (λ why. lent) hs l bad ∙ either-way lent cs in
+    rw (number, room, left)
 
 -- ---- two calls
 
@@ -96,10 +137,11 @@ module _ (xs ys : List ℕ) (l : Lent) (fits : Fits (length (xs ++ ys)) l) where
 
   bad-parts : Bad (l .room) (l .state) → called (xs ++ ys) l ≡ joined (called xs first) (called ys (second (called xs first)))
   bad-parts bad =
+      let n = numberGiven (front (l .room) (l .state)) in
       called-bad (xs ++ ys) l bad
       ∙ sym (
       ap (λ (one : Lent). joined one (called ys (second one))) (called-bad xs first bad)
-      ∙ ap (joined (given (badNumber bad) first)) (called-bad ys (second (given (badNumber bad) first)) bad)
+      ∙ ap (joined (given n first)) (called-bad ys (second (given n first)) bad)
       ∙ rw (take-append-drop e (l .events), take-append-drop a (l .answers))
       )
 
@@ -138,14 +180,13 @@ module _ (xs ys : List ℕ) (l : Lent) (fits : Fits (length (xs ++ ys)) l) where
       )
 
   in-parts : called (xs ++ ys) l ≡ joined (called xs first) (called ys (second (called xs first)))
-  in-parts = go (roomLong (l .room)) refl (roomOk (l .room)) refl (holdsReceiver (l .state)) refl
+  in-parts = go (ℕ-discrete (numberGiven (front (l .room) (l .state))) 0)
     where
-      go : (b : Bool) → roomLong (l .room) ≡ b → (c : Bool) → roomOk (l .room) ≡ c → (d : Bool) → holdsReceiver (l .state) ≡ d
-          → called (xs ++ ys) l ≡ joined (called xs first) (called ys (second (called xs first)))
-      go false p c q d r = bad-parts (table p)
-      go true p false q d r = bad-parts (rule p q)
-      go true p true q false r = bad-parts (receiver q r)
-      go true p true q true r = good-parts q r
+      go : Dec (numberGiven (front (l .room) (l .state)) ≡ 0) → called (xs ++ ys) l ≡ joined (called xs first) (called ys (second (called xs first)))
+      go (no bad) = bad-parts bad
+      go (yes none) =
+          let parts = past-front (l .room) (l .state) none in
+          good-parts (parts .0) (parts .1)
 
 pub two-calls : TwoCalls
 unfolding inParts

@@ -1,35 +1,77 @@
 -- The statements of specs/Statements proved: each goes by the two outcomes of applying a message.
 use mathlib.Core.Path.{_≡_, refl, sym, ap, subst, _∙_}
 use mathlib.Core.Bool.{Bool, true, false, not, _&&_, _||_, true≢false}
-use mathlib.Core.List.{List}
-use Prim.Native.Nat.{ℕ, zero, suc, _+_, _*_, _/_, _%_, _≤_, _<_}
+use Prim.Native.Nat.{ℕ, _+_, _*_, _/_, _%_, _≤_, _<_}
 use native.Mathlib.Omega.{arith}
 use native.Mathlib.Decide.{ℕ-discrete}
-use borrow.Author.Tests.{eqb-false, eq-eqb}
+use borrow.Author.Tests.{eqb-true, eqb-false, eq-eqb}
 use lib.Dec.{eqb, leb}
-use lib.ListN.{length, getD}
+use lib.ListN.{getD}
 use Rattle.ground.specs.Choice.{pick}
 use Rattle.ground.proofs.Choices.{pick-both}
 use Rattle.ground.proofs.Causes.{some-number}
 use Rattle.message.specs.declared.Message.{Message}
-use Rattle.message.specs.declared.Message.the-variants.{Extended}
+use Rattle.message.specs.declared.Message.the-variants.{Address as Calls, Function as Command, Extended}
+use Rattle.plan.specs.Motions.{motionPlan}
 use Rattle.plan.specs.Plans.{bit, levelIn, groupIn, groupsIn, houseOf, planOf, absolute, extendedPlan}
 use Rattle.plan.specs.declared.Act.{Act}
 use Rattle.plan.specs.declared.Act.the-variants.{Nothing, Join, Level, JoinAt, UnitsOn, UnitsOff, Leave, LeaveHouse, Execute, GroupOff, GroupDim, GroupBright}
+use Rattle.plan.specs.declared.Motion.{Motion}
 use Rattle.plan.specs.declared.Plan.{Plan}
-use Rattle.plan.specs.declared.Plan.the-variants.{Run, Refused}
+use Rattle.plan.specs.declared.Plan.the-variants.{Run, Move, Refused}
+use Rattle.plan.proofs.PlanLaws.{only-type-zero}
 use Rattle.record.specs.declared.Record.{Record}
 use Rattle.record.specs.declared.House.{House}
 use Rattle.record.specs.Layout.{RECORD-BYTES, UNITS, RECORDS, HEARD-AT, recordAt, recordBytes, houseAt, present}
-use Rattle.record.specs.ModuleTable.{joined, left, acted, stepRecord, houseAfter, stepHouse, runAct, changed}
-use Rattle.room.specs.Rooms.{Room, roomAfter, applyAnswer, roomReport, levelsOf}
-use Rattle.room.proofs.TableLaws.{byte-of-record, changed-ext, record-put-house}
-use Rattle.room.proofs.HouseLaws.{run-length, run-record, run-byte, run-house, run-house-other, whole}
-use Rattle.room.proofs.ApplyLaws.{house-below, Ran, Outcome, stays, did, outcome}
-use Rattle.room_laws.specs.Statements.{ownByte, planConcerns, ByPlan, OwnHouseOnly, OthersStay, RecordByRecord, RefusedStays, CountAtMost16}
-use Rattle.room_laws.specs.Statements.{CountAtMost256}
-use Rattle.room_laws.specs.Statements.{ExtendedKeeps}
-use Rattle.room_laws.proofs.ReachLaws.{step-changed, step-unreached}
+use Rattle.record.specs.ModuleTable.{joined, left, acted, stepRecord, houseAfter, runAct}
+use Rattle.module_table.proofs.TableLaws.{byte-of-record, changed-none}
+use Rattle.module_table.proofs.HouseLaws.{run-length, run-record, run-byte, run-house, run-house-other}
+use Rattle.module_table.proofs.Runs.{changed-at-most, run-changed}
+use Rattle.shutter_table.specs.Statements.{everyHouse}
+use Rattle.shutter_table.proofs.TableLaws.{each-shutter, own-shutters-only, openings-at-most-256}
+use Rattle.room.specs.Rooms.{Room, roomAfter, applyAnswer, roomReport, changesOf}
+use Rattle.room.proofs.ApplyLaws.{house-below, unit-below, modules-size, shutters-size, Ran, Outcome, stays, did, moved, outcome}
+use Rattle.room_laws.specs.Statements.{planConcerns, typeZero, forEveryHouse, OnlyTypeZeroMoves, OwnHouse, OwnHouseOnly, OthersStay}
+use Rattle.room_laws.specs.Statements.{ByPlan, RecordByRecord, RefusedStays, CountAtMost16, CountAtMost256, ExtendedKeeps}
+use Rattle.room_laws.proofs.ReachLaws.{step-unreached}
+
+-- ---- each message its table
+
+-- a plan for one table is none for the other
+apart : {a : Act} {b : Motion} → Run a ≡ Move b → ⊥
+apart e = let z : _≡_ {A = ℕ} 0 1 = cc in omega arith
+
+-- type 0 asks for no act, and nothing else for a motion
+no-act : (m : Message) (a : Act) → typeZero m ≡ true → planOf m ≡ Run a → ⊥
+no-act (Calls h u) a zero e = true≢false (sym zero)
+no-act (Command h f) a zero e = true≢false (sym zero)
+no-act (Extended h u d c) a zero e = only-type-zero .type-zero h u d c a (omega (arith, eqb-true (c / 16) 0 zero)) e
+
+no-motion : (m : Message) (a : Motion) → typeZero m ≡ false → planOf m ≡ Move a → ⊥
+no-motion (Calls h u) a other e = apart e
+no-motion (Command h f) a other e = apart e
+no-motion (Extended h u d c) a other e =
+    let (g, v, b, k, is, low) = only-type-zero .others (Extended h u d c) a e in
+    let same : c ≡ k = ap commandOf is in
+    eqb-false (c / 16) 0 other (omega arith)
+  where
+    commandOf : Message → ℕ
+    commandOf (Calls h u) = 0
+    commandOf (Command h f) = 0
+    commandOf (Extended h u d c) = c
+
+pub only-type-zero-moves : OnlyTypeZeroMoves
+only-type-zero-moves m room = record { type-zero = λ zero. modules-stay zero (outcome m room); others = λ other. shutters-stay other (outcome m room) }
+  where
+    modules-stay : typeZero m ≡ true → Outcome m room → roomAfter m room .modules ≡ room .modules
+    modules-stay zero (stays why e same) = ap (λ (x : Room). x .modules) same
+    modules-stay zero (did a r) = absurd (no-act m a zero (r .plan))
+    modules-stay zero (moved a r) = rw (r .left)
+
+    shutters-stay : typeZero m ≡ false → Outcome m room → roomAfter m room .shutters ≡ room .shutters
+    shutters-stay other (stays why e same) = ap (λ (x : Room). x .shutters) same
+    shutters-stay other (did a r) = rw (r .left)
+    shutters-stay other (moved a r) = absurd (no-motion m a other (r .plan))
 
 -- ---- only the own house
 
@@ -37,21 +79,71 @@ neither : (a b : Bool) → (a || b) ≡ false → (a ≡ false) × (b ≡ false)
 neither true b e = absurd (true≢false e)
 neither false b e = (refl, e)
 
+-- the motion of a plan, if it has one, is for its own house
+abbrev Home : Plan → Type 0
+Home (Run a) = Unit {0}
+Home (Move a) = everyHouse a ≡ false
+Home (Refused why) = Unit {0}
+
+motion-home : (u d c : ℕ) → (eqb c 0x05 || eqb c 0x08 || eqb c 0x0A || eqb c 0x0C) ≡ false → Home (motionPlan u d c)
+unfolding motionPlan
+motion-home u d c out =
+    let three = neither (eqb c 0x05 || eqb c 0x08 || eqb c 0x0A) (eqb c 0x0C) out in
+    let two = neither (eqb c 0x05 || eqb c 0x08) (eqb c 0x0A) (three .0) in
+    let one = neither (eqb c 0x05) (eqb c 0x08) (two .0) in
+    rw (one .0, one .1, two .1, three .1)
+    (pick-both Home (eqb c 0x01) _ _ refl
+    (pick-both Home (eqb c 0x02) _ _ refl
+    (pick-both Home (eqb c 0x03) _ _ refl
+    (pick-both Home (eqb c 0x04) _ _ refl
+    (pick-both Home (eqb c 0x07) _ _ refl
+    (pick-both Home (eqb c 0x09) _ _ refl
+    (pick-both Home (eqb c 0x0B) _ _ refl
+    (pick-both Home (eqb c 0x0E || eqb c 0x0F) _ _ refl tt))))))))
+
+home : (m : Message) (a : Motion) → forEveryHouse m ≡ false → planOf m ≡ Move a → everyHouse a ≡ false
+home (Calls h u) a out e = absurd (apart e)
+home (Command h f) a out e = absurd (apart e)
+home (Extended h u d c) a out e =
+    let (g, v, b, k, is, low) = only-type-zero .others (Extended h u d c) a e in
+    subst Home (sym (type-plan h u d c (type h u d c e)) ∙ e) (motion-home u d c out)
+  where
+    type : (h u d c : ℕ) → planOf (Extended h u d c) ≡ Move a → eqb (c / 16) 0 ≡ true
+    type h u d c e = go (eqb (c / 16) 0) refl
+      where
+        go : (b : Bool) → eqb (c / 16) 0 ≡ b → eqb (c / 16) 0 ≡ true
+        go true t = t
+        go false t = absurd (no-motion (Extended h u d c) a t e)
+
+    type-plan : (h u d c : ℕ) → eqb (c / 16) 0 ≡ true → planOf (Extended h u d c) ≡ motionPlan u d c
+    type-plan h u d c t = rw t
+
 pub own-house-only : OwnHouseOnly
 own-house-only m room = go (outcome m room)
   where
-    go : Outcome m room
-        → (length (roomAfter m room .modules) ≡ length (room .modules))
-        × ((k : ℕ) → ownByte (houseOf m) k ≡ false → getD (roomAfter m room .modules) k 0 ≡ getD (room .modules) k 0)
-    go (stays why e same) = (rw same, λ k out. rw same)
+    go : Outcome m room → OwnHouse m room
+    go (stays why e same) = record { modules-long = rw same; modules = λ k out. rw same; shutters-long = rw same; shutters = λ one k out. rw same }
     go (did a r) =
         let h = houseOf m in
-        let t = room .modules in (
-          rw (r .left) (run-length a h t),
-          λ k out.
+        let t = room .modules in
+        record {
+          modules-long = rw (r .left) (run-length a h t);
+          modules = λ k out.
               let apart = neither (eqb (k / (UNITS * RECORD-BYTES)) h) (eqb k (HEARD-AT + h)) out in
-              rw (r .left) (run-byte a h t k (eqb-false (k / (UNITS * RECORD-BYTES)) h (apart .0)) (eqb-false k (HEARD-AT + h) (apart .1))),
-        )
+              rw (r .left) (run-byte a h t k (eqb-false (k / (UNITS * RECORD-BYTES)) h (apart .0)) (eqb-false k (HEARD-AT + h) (apart .1)));
+          shutters-long = rw (r .left);
+          shutters = λ one k out. rw (r .left);
+        }
+    go (moved a r) =
+        let h = houseOf m in
+        let size = shutters-size room (r .ok) in
+        record {
+          modules-long = rw (r .left);
+          modules = λ k out. rw (r .left);
+          shutters-long = rw (r .left) (each-shutter a h (room .shutters) size .long);
+          shutters = λ one k out.
+              rw (r .left) (own-shutters-only a h (room .shutters) k size (unit-below m a (r .message) (r .plan)) (home m a one (r .plan)) out);
+        }
 
 -- ---- records that are not concerned
 
@@ -62,11 +154,11 @@ others-stay m room i k below small out = go (outcome m room)
     own = houseAt (room .modules) (houseOf m)
 
     -- the record stays
-    same : (a : Act) → Ran m room a → (b : Bool) → (b && planConcerns (planOf m) own (i % UNITS) (recordAt (room .modules) i)) ≡ false
+    same : (a : Act) → Ran m room (Run a) → (b : Bool) → (b && planConcerns (planOf m) own (i % UNITS) (recordAt (room .modules) i)) ≡ false
         → pick b (stepRecord a own (i % UNITS) (recordAt (room .modules) i)) (recordAt (room .modules) i) ≡ recordAt (room .modules) i
     same a r true e =
         step-unreached a own (i % UNITS) (recordAt (room .modules) i)
-        (ap (λ p. planConcerns p own (i % UNITS) (recordAt (room .modules) i)) (sym (r .runs)) ∙ e)
+        (ap (λ p. planConcerns p own (i % UNITS) (recordAt (room .modules) i)) (sym (r .plan)) ∙ e)
     same a r false e = refl
 
     go : Outcome m room → getD (roomAfter m room .modules) (i * RECORD-BYTES + k) 0 ≡ getD (room .modules) (i * RECORD-BYTES + k) 0
@@ -75,8 +167,9 @@ others-stay m room i k below small out = go (outcome m room)
         let h = houseOf m in
         let t = room .modules in
         let kept : recordAt (roomAfter m room .modules) i ≡ recordAt t i =
-        rw (r .left) (run-record a h t i below (whole t (r .ok) .size) ∙ same a r (eqb (i / UNITS) h) out) in
+        rw (r .left) (run-record a h t i below (modules-size room (r .ok)) ∙ same a r (eqb (i / UNITS) h) out) in
         byte-of-record (roomAfter m room .modules) i k small ∙ ap (λ x. getD (recordBytes x) k 0) kept ∙ sym (byte-of-record t i k small)
+    go (moved a r) = rw (r .left)
 
 -- ---- record by record
 
@@ -89,15 +182,22 @@ record-by-record m room none = go (outcome m room)
         let h = houseOf m in
         let t = room .modules in
         let house = house-below m (r .message) in
-        let size = whole t (r .ok) .size in
+        let size = modules-size room (r .ok) in
         record {
           records =
               λ n below.
               let place : (h * UNITS + n) / UNITS ≡ h = omega arith in
               let unit : (h * UNITS + n) % UNITS ≡ n = omega arith in
-              rw (r .left, r .runs)
+              rw (r .left, r .plan)
               (run-record a h t (h * UNITS + n) (omega arith) size ∙ simp (eq-eqb ((h * UNITS + n) / UNITS) h place, unit));
-          house = rw (r .left, r .runs) (run-house a h t house size);
+          house = rw (r .left, r .plan) (run-house a h t house size);
+          shutters = λ i below. rw (r .left, r .plan);
+        }
+    go (moved a r) =
+        record {
+          records = λ n below. rw (r .left, r .plan);
+          house = rw (r .left, r .plan);
+          shutters = λ i below. rw (r .left, r .plan) (each-shutter a (houseOf m) (room .shutters) (shutters-size room (r .ok)) .each i below);
         }
 
 -- ---- refusals and the count
@@ -105,44 +205,29 @@ record-by-record m room none = go (outcome m room)
 pub refused-stays : RefusedStays
 refused-stays m room some = go (outcome m room)
   where
-    go : Outcome m room → (roomAfter m room ≡ room) × (levelsOf (applyAnswer m room) ≡ 0)
+    go : Outcome m room → (roomAfter m room ≡ room) × (changesOf (applyAnswer m room) ≡ record { levels = 0; openings = 0 })
     go (stays why e same) = (same, rw e)
     go (did a r) = absurd (some (rw (r .answer)))
-
-changed-at-most : (n : ℕ) (before after : List ℕ) → changed n before after ≤ n
-unfolding changed
-changed-at-most zero before after = omega arith
-changed-at-most (suc n) before after =
-    let same = eqb (recordAt before n .level) (recordAt after n .level) in
-    let one : pick same 0 1 ≤ 1 = pick-both (λ x. x ≤ 1) same 0 1 (omega arith) (omega arith) in
-    omega (arith, changed-at-most n before after, one)
+    go (moved a r) = absurd (some (rw (r .answer)))
 
 pub count-at-most-256 : CountAtMost256
-count-at-most-256 before after = changed-at-most RECORDS (before .modules) (after .modules)
+count-at-most-256 before after =
+    (changed-at-most (before .modules) (after .modules), openings-at-most-256 (before .shutters) (after .shutters))
 
 pub count-at-most-16 : CountAtMost16
-unfolding runAct
 count-at-most-16 m room = go (outcome m room)
   where
-    go : Outcome m room → levelsOf (applyAnswer m room) ≤ UNITS
+    go : Outcome m room → changesOf (applyAnswer m room) .levels ≤ UNITS
     go (stays why e same) = rw e (omega arith)
-    go (did a r) =
-        let h = houseOf m in
-        let t = room .modules in
-        let own = houseAt t h in
-        let stepped = stepHouse UNITS a own h t in
-        rw (
-          r .answer,
-          r .left,
-          changed-ext RECORDS t (runAct a h t) stepped (λ i below. record-put-house stepped i h (houseAfter a own) below),
-        )
-        (step-changed a own h t UNITS (omega arith) (house-below m (r .message)) (whole t (r .ok) .size))
+    go (did a r) = rw (r .answer, r .left) (run-changed a (houseOf m) (room .modules) (house-below m (r .message)) (modules-size room (r .ok)))
+    go (moved a r) = rw (r .answer, r .left) (rw (changed-none (room .modules)) (omega arith))
 
 -- ---- extended commands
 
 -- the act of a plan leaves each mark of being addressed, and the house's own bytes
 abbrev Keeps : Plan → Type 0
 Keeps (Run a) = ((own : House) (n : ℕ) (r : Record) → stepRecord a own n r .addressed ≡ r .addressed) × ((own : House) → houseAfter a own ≡ own)
+Keeps (Move a) = Unit {0}
 Keeps (Refused why) = Unit {0}
 
 keeps-act : (a : Act) → ((own : House) (n : ℕ) (r : Record) → acted a own n r .addressed ≡ r .addressed) → ((own : House) → houseAfter a own ≡ own)
@@ -187,6 +272,26 @@ keeps-extended u d c =
     (pick-both Keeps (eqb c 0x37) _ _ (pick-both Keeps (not (bit 5 d) || (not (bit 4 d) && eqb (d % 16) 0)) _ _ keeps-nothing tt)
     (pick-both Keeps (leb 0x38 c && leb c 0x3B) _ _ keeps-nothing tt)))))))))
 
+-- of type 0 too, which asks for no act
+keeps-motion : (u d c : ℕ) → Keeps (motionPlan u d c)
+unfolding motionPlan
+keeps-motion u d c =
+    pick-both Keeps (eqb c 0x01) _ _ tt
+    (pick-both Keeps (eqb c 0x02) _ _ tt
+    (pick-both Keeps (eqb c 0x03) _ _ tt
+    (pick-both Keeps (eqb c 0x04) _ _ tt
+    (pick-both Keeps (eqb c 0x05) _ _ tt
+    (pick-both Keeps (eqb c 0x07) _ _ tt
+    (pick-both Keeps (eqb c 0x08) _ _ tt
+    (pick-both Keeps (eqb c 0x09) _ _ tt
+    (pick-both Keeps (eqb c 0x0A) _ _ tt
+    (pick-both Keeps (eqb c 0x0B) _ _ tt
+    (pick-both Keeps (eqb c 0x0C) _ _ tt
+    (pick-both Keeps (eqb c 0x0E || eqb c 0x0F) _ _ tt tt)))))))))))
+
+keeps-plan : (u d c : ℕ) → Keeps (pick (eqb (c / 16) 0) (motionPlan u d c) (extendedPlan u d c))
+keeps-plan u d c = pick-both Keeps (eqb (c / 16) 0) _ _ (keeps-motion u d c) (keeps-extended u d c)
+
 pub extended-keeps : ExtendedKeeps
 extended-keeps h u d c room = go (outcome m room)
   where
@@ -197,20 +302,21 @@ extended-keeps h u d c room = go (outcome m room)
         → ((i : ℕ) → i < RECORDS → recordAt (roomAfter m room .modules) i .addressed ≡ recordAt (room .modules) i .addressed)
         × ((g : ℕ) → houseAt (roomAfter m room .modules) g .heard ≡ houseAt (room .modules) g .heard)
     go (stays why e same) = (λ i below. rw same, λ g. rw same)
+    go (moved a r) = (λ i below. rw (r .left), λ g. rw (r .left))
     go (did a r) =
         let t = room .modules in
-        let keeps : Keeps (Run a) = subst Keeps (r .runs) (keeps-extended u d c) in (
+        let keeps : Keeps (Run a) = subst Keeps (r .plan) (keeps-plan u d c) in (
           λ i below.
               let mark = recordAt t i .addressed in
               let kept = keeps .0 (houseAt t h) (i % UNITS) (recordAt t i) in
-              rw (r .left, run-record a h t i below (whole t (r .ok) .size))
+              rw (r .left, run-record a h t i below (modules-size room (r .ok)))
               (pick-both (λ (x : Record). x .addressed ≡ mark) (eqb (i / UNITS) h) _ _ kept refl),
           λ g. rw (r .left) (heard g (ℕ-discrete g h) a r (keeps .1)),
         )
       where
-        heard : (g : ℕ) → Dec (g ≡ h) → (a : Act) → Ran m room a → ((own : House) → houseAfter a own ≡ own)
+        heard : (g : ℕ) → Dec (g ≡ h) → (a : Act) → Ran m room (Run a) → ((own : House) → houseAfter a own ≡ own)
             → houseAt (runAct a h (room .modules)) g .heard ≡ houseAt (room .modules) g .heard
         heard g (yes own) a r keeps =
             let t = room .modules in
-            rw own (ap (λ (x : House). x .heard) (run-house a h t (house-below m (r .message)) (whole t (r .ok) .size) ∙ keeps (houseAt t h)))
+            rw own (ap (λ (x : House). x .heard) (run-house a h t (house-below m (r .message)) (modules-size room (r .ok)) ∙ keeps (houseAt t h)))
         heard g (no other) a r keeps = ap (λ (x : House). x .heard) (run-house-other a h (room .modules) (house-below m (r .message)) g other)

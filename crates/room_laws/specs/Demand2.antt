@@ -1,6 +1,6 @@
--- Demand 2: "Two routes carrying the same messages leave equal tables if the tables were equal before." What a route leaves and counts is
--- what the contracts of `radio_route` and `mains_route` promise of its calls.
-use Prim.Native.Nat.{ℕ, zero, suc, _+_, _*_, _/_, _^_, _≤_}
+-- Demand 2: "Two routes carrying the same messages leave equal tables if the tables were equal before.", and 02, A1: "Demand 2 covers both tables from here."
+-- What a route leaves and counts is what the contracts of `radio_route` and `mains_route` promise of its calls.
+use Prim.Native.Nat.{ℕ, zero, suc, _+_, _*_, _/_, _%_, _^_, _≤_}
 use mathlib.Core.Path.{_≡_}
 use mathlib.Core.Bool.{true}
 use mathlib.Core.List.{List, [], _∷_, _++_, map, flatMap}
@@ -15,7 +15,8 @@ use Rattle.receiver.specs.Bytes.{receiverBytes}
 use Rattle.radio.specs.Codes.{fourBytes, commandOk, commandOf}
 use Rattle.radio.specs.Answers.{readCauses, messagesOf}
 use Rattle.radio.specs.declared.RadioCommand.{RadioCommand}
-use Rattle.room.specs.Rooms.{Room, levelsOf}
+use Rattle.room.specs.declared.Changes.{Changes}
+use Rattle.room.specs.Rooms.{Room, changesOf}
 use Rattle.room.specs.Routes.{roomAfterAll, radioAfter, radioAnswer}
 use Rattle.room.specs.Mains.{Lending, lentTo, heard, lentCauses, mainsCauses, mainsAfter, mainsLent}
 
@@ -24,7 +25,7 @@ use Rattle.room.specs.Mains.{Lending, lentTo, heard, lentCauses, mainsCauses, m
 pub data Route : Type 0 where
   -- by radio, codes, a call each
   radio : List (List ℕ) → Route
-  -- on the mains, half-cycles in one call, with whatever is lent beside the table: the bytes of a receiver and both buffers; Slices.antt says
+  -- on the mains, half-cycles in one call, with whatever is lent beside the tables: the bytes of a receiver and both buffers; Slices.antt says
   -- that more calls make no difference
   mains : Lending → Route
 
@@ -50,25 +51,35 @@ leaves (mains l) room = mainsAfter l room
 
 -- ---- what it counts
 
--- by radio, the counts that the calls give back, added up
-unfoldable pub radioCounts : List (List ℕ) → Room → ℕ
-radioCounts [] room = 0
-radioCounts (code ∷ codes) room = levelsOf (radioAnswer code room) + radioCounts codes (radioAfter code room)
+-- counts of modules and of shutters, added up each
+abbrev pub noChanges : Changes
+noChanges = record { levels = 0; openings = 0 }
 
--- on the mains, the counts of the answers that are left beside the events, added up: eight bytes each, the lowest first, the count above
--- the lowest eight bits; a call that is refused counts 0
+abbrev pub added : Changes → Changes → Changes
+added c d = record { levels = c .levels + d .levels; openings = c .openings + d .openings }
+
+-- by radio, the counts that the calls give back, added up
+unfoldable pub radioCounts : List (List ℕ) → Room → Changes
+radioCounts [] room = noChanges
+radioCounts (code ∷ codes) room = added (changesOf (radioAnswer code room)) (radioCounts codes (radioAfter code room))
+
+-- on the mains, the counts of the answers that are left beside the events, added up: eight bytes each, the lowest first, the levels in the sixteen bits
+-- above the lowest eight, and the openings in the next sixteen; a call that is refused counts 0
 abbrev pub numberIn : List ℕ → ℕ
 numberIn b =
     getD b 0 0 + getD b 1 0 * 2 ^ 8 + getD b 2 0 * 2 ^ 16 + getD b 3 0 * 2 ^ 24
     + getD b 4 0 * 2 ^ 32 + getD b 5 0 * 2 ^ 40 + getD b 6 0 * 2 ^ 48 + getD b 7 0 * 2 ^ 56
 
-unfoldable pub countsIn : ℕ → List ℕ → ℕ
-countsIn zero answers = 0
-countsIn (suc n) answers = numberIn answers / 2 ^ 8 + countsIn n (drop 8 answers)
+abbrev pub changesIn : List ℕ → Changes
+changesIn b = record { levels = numberIn b / 2 ^ 8 % 2 ^ 16; openings = numberIn b / 2 ^ 24 % 2 ^ 16 }
 
-abbrev pub counts : Route → Room → ℕ
+unfoldable pub countsIn : ℕ → List ℕ → Changes
+countsIn zero answers = noChanges
+countsIn (suc n) answers = added (changesIn answers) (countsIn n (drop 8 answers))
+
+abbrev pub counts : Route → Room → Changes
 counts (radio codes) room = radioCounts codes room
-counts (mains l) room = judged (mainsCauses l room) (countsIn (length (l .halves)) (mainsLent l room .answers)) (λ why. 0)
+counts (mains l) room = judged (mainsCauses l room) (countsIn (length (l .halves)) (mainsLent l room .answers)) (λ why. noChanges)
 
 -- ---- the demand
 

@@ -5,7 +5,7 @@ use mathlib.Core.Path.{_≡_}
 use mathlib.Core.List.{List, [], _∷_, _++_}
 use lib.ListN.{length, take, drop}
 use Rattle.room.specs.Rooms.{Room, roomReport}
-use Rattle.room.specs.Mains.{Lending, lentTo, mainsAnswer, mainsAfter, lentAfter}
+use Rattle.room.specs.Mains.{lentTo, mainsAnswer, mainsAfter, lentAfter}
 
 -- all that is lent, the room, the receiver and the two buffers, beside the number that the last call gave back
 pub record Lent : Type 0 where

@@ -1,167 +1,36 @@
-// Sequences of messages that a user would try, each on a few modules. A message is printed with what `apply` answered, and under it
-// each record and house byte that it changed, as they are then. What the file `stdout` says was worked out from 01 by hand.
+// Sequences of messages that a user would try, each on a few modules, and in `shutters` on a few shutters. What the file `stdout` says was
+// worked out from the papers by hand.
+use line::listen;
+use line::wall_on;
 use message::Function;
 use message::Message;
-use radio::RadioBytes;
-use radio::RadioCommand;
-use record::RECORD_BYTES;
-use record::TABLE_BYTES;
 use room::apply;
-use room::mains::mains_route;
-use room::routes::radio_route;
 use show::print;
+use tables::address;
+use tables::damaged;
+use tables::extended;
+use tables::function;
+use tables::new_room;
+use tables::radio_on;
+use tables::send;
 
+mod line;
 mod show;
-
-// A module of a kind and a level at a place, 0 to 255, in no group.
-fn with(room: [u8; TABLE_BYTES], place: u8, kind: u8, level: u8) -> [u8; TABLE_BYTES] {
-    let mut t = room;
-    let at = place as usize * RECORD_BYTES;
-    t[at] = kind;
-    t[at + 1] = level;
-    t
-}
-
-// Lamps A1 to A3 and appliance A4, all dark, and lamp B1 at 40, which nothing below reaches.
-fn new_room() -> [u8; TABLE_BYTES] {
-    let t = [0u8; TABLE_BYTES];
-    let t = with(t, 0, 1, 0);
-    let t = with(t, 1, 1, 0);
-    let t = with(t, 2, 1, 0);
-    let t = with(t, 3, 2, 0);
-    with(t, 16, 1, 40)
-}
-
-// Applies a message and prints what came of it.
-fn send(room: [u8; TABLE_BYTES], m: Message) -> [u8; TABLE_BYTES] {
-    let mut t = room;
-    let a = apply(&mut t, m);
-    show::applied(m, a);
-    show::changed_records(&room, &t);
-    show::changed_houses(&room, &t);
-    t
-}
-
-// The same for house A: an address, a function, an extended command.
-fn address(room: [u8; TABLE_BYTES], unit: u8) -> [u8; TABLE_BYTES] {
-    send(
-        room,
-        Message::Address {
-            house: 0,
-            unit: unit,
-        },
-    )
-}
-
-fn function(room: [u8; TABLE_BYTES], f: Function) -> [u8; TABLE_BYTES] {
-    send(
-        room,
-        Message::Function {
-            house: 0,
-            function: f,
-        },
-    )
-}
-
-fn extended(room: [u8; TABLE_BYTES], unit: u8, command: u8, data: u8) -> [u8; TABLE_BYTES] {
-    send(
-        room,
-        Message::Extended {
-            house: 0,
-            unit: unit,
-            data: data,
-            command: command,
-        },
-    )
-}
-
-// A table, and the receiver that listens to the mains for it, in its eleven bytes.
-struct Listening {
-    table: [u8; TABLE_BYTES],
-    state: [u8; 11],
-}
-
-// A message's burst on the mains, after three clear half-cycles.
-fn line_of(m: Message) -> [u8; 47] {
-    let mut line = [0u8; 47];
-    burst::write_burst(m, &mut line[3..]);
-    line
-}
-
-// Sends a message on the mains and prints what came of it.
-fn burst_to(before: Listening, m: Message) -> Listening {
-    let line = line_of(m);
-    let mut events = [0u8; 282];
-    let mut answers = [0u8; 376];
-    let table = before.table;
-    let mut t = table;
-    let mut state = before.state;
-    let a = mains_route(&mut state, &line, &mut t, &mut events, &mut answers);
-    show::applied(m, a);
-    show::changed_records(&table, &t);
-    show::changed_houses(&table, &t);
-    Listening {
-        table: t,
-        state: state,
-    }
-}
-
-// On of a unit of house A, pressed on the wall: an address and a function, each a burst on the mains.
-fn wall_on(before: Listening, unit: u8) -> Listening {
-    let addressed = burst_to(
-        before,
-        Message::Address {
-            house: 0,
-            unit: unit,
-        },
-    );
-    burst_to(
-        addressed,
-        Message::Function {
-            house: 0,
-            function: Function::On,
-        },
-    )
-}
-
-// The same pressed on a radio keypad: four bytes.
-fn radio_on(before: [u8; TABLE_BYTES], unit: u8) -> [u8; TABLE_BYTES] {
-    let mut t = before;
-    match radio::write(RadioCommand::On {
-        house: 0,
-        unit: unit,
-    }) {
-        RadioBytes::Bytes(b, x, c, y) => {
-            let code = [b, x, c, y];
-            let a = radio_route(&mut t, &code);
-            show::coded(&code, a);
-        }
-        RadioBytes::Refused(_) => {}
-    }
-    show::changed_records(&before, &t);
-    show::changed_houses(&before, &t);
-    t
-}
+mod shutters;
+mod tables;
 
 // Lamp A1 is called and switched on, and then lamp A3: by bursts, a receiver and the mains route, and by radio bytes and the radio route.
 fn both_buttons() {
-    let mut state = [0u8; 11];
-    receiver::lent::fresh(&mut state);
     print(b"Reading, by the wall\n");
-    let wall = wall_on(
-        Listening {
-            table: new_room(),
-            state: state,
-        },
-        0,
-    );
+    let wall = wall_on(listen(new_room()), 0);
     let wall = wall_on(wall, 2);
-    let by_wall = wall.table;
+    let wall_room = wall.room;
+    let by_wall = wall_room.table;
     print(b"Reading, by radio\n");
-    let by_radio = radio_on(radio_on(new_room(), 0), 2);
+    let radio_room = radio_on(radio_on(new_room(), 0), 2);
+    let by_radio = radio_room.table;
     print(b"what the two tables differ in\n");
-    show::changed_records(&by_wall, &by_radio);
-    show::changed_houses(&by_wall, &by_radio);
+    show::changed_modules(&by_wall, &by_radio);
 }
 
 fn called_together() {
@@ -266,18 +135,19 @@ fn heard_only() {
     extended(t, 0, 0x35, 0x11);
 }
 
-// The lowest number that applies: a short table, a house or a unit above 15, a lamp at 64, a command that is not carried.
+// A short table, a house or a unit above 15, a lamp at 64, a command that is not carried: the first that applies.
 fn refusals() {
     print(b"Refused\n");
     let far = Message::Address { house: 16, unit: 0 };
     let mut short = [0u8; 2063];
-    let a = apply(&mut short, far);
+    let room = new_room();
+    let mut none = room.shutters;
+    let a = apply(&mut short, &mut none, far);
     print(b"2063 bytes, ");
     show::applied(far, a);
-    let t = send(new_room(), far);
+    let t = send(room, far);
     let t = extended(t, 16, 0x33, 0x00);
-    let damaged = with(t, 1, 1, 64);
-    let t = send(damaged, far);
+    let t = send(damaged(t), far);
     let t = function(t, Function::On);
     extended(t, 0, 0x3D, 0x00);
 }
@@ -292,4 +162,5 @@ fn main() {
     appliance();
     heard_only();
     refusals();
+    shutters::scenes();
 }

@@ -1,4 +1,5 @@
-// Lines for a reader: a message with what applying it answered, and what it changed in the table.
+// Lines for a reader: a message with what applying it answered, and what it changed in the two tables.
+use crate::line::ANSWERS;
 use ground::refusal_number;
 use libc::STDOUT_FILENO;
 use message::Message;
@@ -7,13 +8,17 @@ use record::HOUSES;
 use record::RECORD_BYTES;
 use record::RECORDS;
 use record::TABLE_BYTES;
+use room::Changes;
 use room::RoomAnswer;
+use shutter_table::SHUTTER_BYTES;
+use shutter_table::SHUTTER_TABLE_BYTES;
+use shutter_table::SHUTTERS;
 use text::Text;
 use text::front;
 use text::hex;
 use text::letter;
 use text::place;
-ghost use Prim.Native.Nat.{_<_};
+ghost use Prim.Native.Nat.{_≤_, _<_};
 
 pub(crate) fn print(s: &[u8]) {
     io::write_all(STDOUT_FILENO, s);
@@ -28,12 +33,33 @@ fn number(n: u64) {
     io::print_decimal(STDOUT_FILENO, n);
 }
 
+fn shutters_moved(n: usize) {
+    number(n as u64);
+    if n == 1 {
+        print(b" shutter moved");
+    } else {
+        print(b" shutters moved");
+    }
+}
+
+// The modules and the shutters that count, each where there are any; where there is neither, 0 changed.
+fn counts(c: Changes) {
+    if (c.levels != 0) | (c.openings == 0) {
+        number(c.levels as u64);
+        print(b" changed");
+    }
+    if (c.levels != 0) & (c.openings != 0) {
+        print(b", ");
+    }
+    if c.openings != 0 {
+        shutters_moved(c.openings);
+    }
+    print(b"\n");
+}
+
 fn answer(a: RoomAnswer) {
     match a {
-        RoomAnswer::Done(c) => {
-            number(c.levels as u64);
-            print(b" changed\n");
-        }
+        RoomAnswer::Done(c) => counts(c),
         RoomAnswer::Refused(why) => {
             print(b"refused ");
             number(refusal_number(why) as u64);
@@ -86,7 +112,7 @@ fn kind(k: u8) {
     }
 }
 
-fn field(name: &[u8], value: u8) {
+pub(crate) fn field(name: &[u8], value: u8) {
     print(name);
     number(value as u64);
 }
@@ -133,7 +159,7 @@ fn house_change(before: &[u8; TABLE_BYTES], after: &[u8; TABLE_BYTES], h: usize)
 }
 
 // The records that differ, as they are after.
-pub(crate) fn changed_records(before: &[u8; TABLE_BYTES], after: &[u8; TABLE_BYTES]) {
+fn changed_records(before: &[u8; TABLE_BYTES], after: &[u8; TABLE_BYTES]) {
     let mut i: usize = 0;
     while i < RECORDS {
         record_change(before, after, i);
@@ -142,10 +168,108 @@ pub(crate) fn changed_records(before: &[u8; TABLE_BYTES], after: &[u8; TABLE_BYT
 }
 
 // The "command heard" bytes that differ, as they are after.
-pub(crate) fn changed_houses(before: &[u8; TABLE_BYTES], after: &[u8; TABLE_BYTES]) {
+fn changed_houses(before: &[u8; TABLE_BYTES], after: &[u8; TABLE_BYTES]) {
     let mut h: usize = 0;
     while h < HOUSES {
         house_change(before, after, h);
         h += 1;
     }
+}
+
+// What differs in a module table: records, then house bytes.
+pub(crate) fn changed_modules(before: &[u8; TABLE_BYTES], after: &[u8; TABLE_BYTES]) {
+    changed_records(before, after);
+    changed_houses(before, after);
+}
+
+// Whether shutter i differs between two tables.
+fn shutter_differs(
+    before: &[u8; SHUTTER_TABLE_BYTES],
+    after: &[u8; SHUTTER_TABLE_BYTES],
+    i: usize,
+) -> bool
+    requires { ⌜ i < 256 ⌝ }
+{
+    let at = i * SHUTTER_BYTES;
+    let mut other = false;
+    let mut k: usize = 0;
+    while k < SHUTTER_BYTES {
+        other = other | (before[at + k] != after[at + k]);
+        k += 1;
+    }
+    other
+}
+
+// A lifestyle and the opening in it, where the shutter is included.
+fn lifestyle(name: &[u8], mark: u8, opening: u8) {
+    if mark != 0 {
+        field(name, opening);
+    }
+}
+
+// The lifestyles that shutter i is included in.
+fn lifestyles(t: &[u8; SHUTTER_TABLE_BYTES], i: usize)
+    requires { ⌜ i < 256 ⌝ }
+{
+    let at = i * SHUTTER_BYTES;
+    lifestyle(b" wake ", t[at + 4], t[at + 12]);
+    lifestyle(b" leave ", t[at + 5], t[at + 13]);
+    lifestyle(b" return ", t[at + 6], t[at + 14]);
+    lifestyle(b" sleep ", t[at + 7], t[at + 15]);
+    lifestyle(b" evening ", t[at + 8], t[at + 16]);
+    lifestyle(b" vacation ", t[at + 9], t[at + 17]);
+    lifestyle(b" special1 ", t[at + 10], t[at + 18]);
+    lifestyle(b" special2 ", t[at + 11], t[at + 19]);
+}
+
+// Shutter i of a table on a line.
+fn shutter(t: &[u8; SHUTTER_TABLE_BYTES], i: usize)
+    requires { ⌜ i < 256 ⌝ }
+{
+    let at = i * SHUTTER_BYTES;
+    print(b"  ");
+    print_text(place((i / 16) as u8, (i % 16) as u8));
+    field(b" opening ", t[at + 1]);
+    field(b" limit ", t[at + 2]);
+    field(b" protection ", t[at + 3]);
+    lifestyles(t, i);
+    print(b"\n");
+}
+
+// Shutter i, if it differs, as it is after.
+fn shutter_change(before: &[u8; SHUTTER_TABLE_BYTES], after: &[u8; SHUTTER_TABLE_BYTES], i: usize)
+    requires { ⌜ i < 256 ⌝ }
+{
+    if shutter_differs(before, after, i) {
+        shutter(after, i);
+    }
+}
+
+// The shutters that differ, as they are after.
+pub(crate) fn changed_shutters(
+    before: &[u8; SHUTTER_TABLE_BYTES],
+    after: &[u8; SHUTTER_TABLE_BYTES],
+) {
+    let mut i: usize = 0;
+    while i < SHUTTERS {
+        shutter_change(before, after, i);
+        i += 1;
+    }
+}
+
+// The eight bytes that the tables answered to half-cycle n of a line, 1 to 127, the lowest first.
+pub(crate) fn answered(answers: &[u8; ANSWERS], n: u8)
+    requires { ⌜ (1 ≤ n) × (n ≤ 127) ⌝ }
+{
+    let at = (n as usize - 1) * 8;
+    field(b"  half-cycle ", n);
+    field(b" answered ", answers[at]);
+    field(b" ", answers[at + 1]);
+    field(b" ", answers[at + 2]);
+    field(b" ", answers[at + 3]);
+    field(b" ", answers[at + 4]);
+    field(b" ", answers[at + 5]);
+    field(b" ", answers[at + 6]);
+    field(b" ", answers[at + 7]);
+    print(b"\n");
 }

@@ -145,56 +145,66 @@ pub extern "C" fn x10_radio_read(code: &[u8], out: &mut [u8]) -> u64
     }
 }
 
-// Applies a message to a lent module table; the count is of the modules whose level differs. Refused 1, 2, 3, 4.
+// Applies a message to a lent module table and a lent shutter table; the counts are of the modules whose level differs and of the shutters whose opening
+// differs. Refused 1, 16, 2, 3, 17, 4, 18, in this order.
 #[no_mangle]
 pub extern "C" fn x10_apply(
     table: &mut [u8],
+    shutters: &mut [u8],
     kind: u8,
     house: u8,
     third: u8,
     data: u8,
     command: u8,
 ) -> u64
-    ensures answer { λ r. ⌜ r ≡ packed (tallied (applyAnswer (handedOn (messageFrom kind house third «data» command)) (roomOf (now (table .entry))))) ⌝ }
-    ensures room { λ _. ⌜ roomOf (now (table .exit)) ≡ roomAfter (handedOn (messageFrom kind house third «data» command)) (roomOf (now (table .entry))) ⌝ }
+    ensures answer { λ r.
+        ⌜ r ≡ packed (tallied (applyAnswer (handedOn (messageFrom kind house third «data» command))
+        (roomOf (now (table .entry)) (now (shutters .entry))))) ⌝ }
+    ensures room { λ _.
+        ⌜ roomOf (now (table .exit)) (now (shutters .exit)) ≡ roomAfter (handedOn (messageFrom kind house third «data» command))
+        (roomOf (now (table .entry)) (now (shutters .entry))) ⌝ }
 {
     match message_from(kind, house, third, data, command) {
-        MessageRead::Message(m) => pack(tally(apply(table, m))),
-        MessageRead::Refused(_) => pack(tally(apply(table, no_message()))),
+        MessageRead::Message(m) => pack(tally(apply(table, shutters, m))),
+        MessageRead::Refused(_) => pack(tally(apply(table, shutters, no_message()))),
     }
 }
 
-// Applies what a radio code means to a lent module table, both messages or none; the count is of the modules whose level differs.
-// Refused 1, 3, 12, 13, 14.
+// Applies what a radio code means to both lent tables, both messages or none; the counts are those of `x10_apply`. Refused 1, 16, 3, 17, 12, 13, 14, in this
+// order.
 #[no_mangle]
-pub extern "C" fn x10_radio_route(table: &mut [u8], code: &[u8]) -> u64
-    ensures answer { λ r. ⌜ r ≡ packed (tallied (radioAnswer (now (code .entry)) (roomOf (now (table .entry))))) ⌝ }
-    ensures room { λ _. ⌜ roomOf (now (table .exit)) ≡ radioAfter (now (code .entry)) (roomOf (now (table .entry))) ⌝ }
+pub extern "C" fn x10_radio_route(table: &mut [u8], shutters: &mut [u8], code: &[u8]) -> u64
+    ensures answer { λ r. ⌜ r ≡ packed (tallied (radioAnswer (now (code .entry)) (roomOf (now (table .entry)) (now (shutters .entry))))) ⌝ }
+    ensures room { λ _.
+        ⌜ roomOf (now (table .exit)) (now (shutters .exit)) ≡ radioAfter (now (code .entry)) (roomOf (now (table .entry)) (now (shutters .entry))) ⌝ }
 {
-    pack(tally(radio_route(table, code)))
+    pack(tally(radio_route(table, shutters, code)))
 }
 
-// Hands half-cycles to the receiver in eleven lent bytes and applies each message that it gives to a lent module table; each half-cycle
-// leaves the six bytes of its event and the eight of the table's answer. The count is of the modules whose level differs. Refused 1, 3, 6, 9.
+// Hands half-cycles to the receiver in eleven lent bytes and applies each message that it gives to both lent tables; each half-cycle leaves the six bytes of
+// its event and the eight of the tables' answer. The counts are those of `x10_apply`, over the whole call. Refused 1, 16, 3, 17, 6, 9, in this order.
 #[no_mangle]
 pub extern "C" fn x10_mains_route(
     state: &mut [u8],
     halves: &[u8],
     table: &mut [u8],
+    shutters: &mut [u8],
     events: &mut [u8],
     answers: &mut [u8],
 ) -> u64
     ensures answer { λ r.
         ⌜ r ≡ packed (tallied (mainsAnswer (lentTo (now (state .entry)) (now (halves .entry)) (now (events .entry)) (now (answers .entry)))
-        (roomOf (now (table .entry))))) ⌝ }
+        (roomOf (now (table .entry)) (now (shutters .entry))))) ⌝ }
     ensures room { λ _.
-        ⌜ roomOf (now (table .exit)) ≡ mainsAfter (lentTo (now (state .entry)) (now (halves .entry)) (now (events .entry)) (now (answers .entry)))
-        (roomOf (now (table .entry))) ⌝ }
+        ⌜ roomOf (now (table .exit)) (now (shutters .exit))
+        ≡ mainsAfter (lentTo (now (state .entry)) (now (halves .entry)) (now (events .entry)) (now (answers .entry)))
+        (roomOf (now (table .entry)) (now (shutters .entry))) ⌝ }
     ensures lent { λ _.
         ⌜ lentTo (now (state .exit)) (now (halves .entry)) (now (events .exit)) (now (answers .exit))
-        ≡ lentAfter (lentTo (now (state .entry)) (now (halves .entry)) (now (events .entry)) (now (answers .entry))) (roomOf (now (table .entry))) ⌝ }
+        ≡ lentAfter (lentTo (now (state .entry)) (now (halves .entry)) (now (events .entry)) (now (answers .entry)))
+        (roomOf (now (table .entry)) (now (shutters .entry))) ⌝ }
 {
-    pack(tally(mains_route(state, halves, table, events, answers)))
+    pack(tally(mains_route(state, halves, table, shutters, events, answers)))
 }
 
 // Makes eight lent bytes an empty station. Refused 6.

@@ -11,10 +11,15 @@ mod receive;
 mod station;
 mod table;
 
-use crate::inputs::TABLE;
+use crate::inputs::{self, SHUTTER, SHUTTER_TABLE, TABLE};
+use crate::lent::Lent;
 use crate::rng::Rng;
 use crate::tally::Tally;
 use x10_model::bytes::{self, EVENT, RECEIVER};
+use x10_model::message::Refusal;
+use x10_model::shutters::Shutters;
+use x10_model::table::Table;
+use x10_model::tables::Counts;
 
 /// Where the house bytes of a table stand.
 const HEARD: usize = TABLE - 16;
@@ -38,6 +43,68 @@ pub fn all(seed: u64, size: usize) -> Vec<Tally> {
     // One after the other in a station's life, so they are compared together.
     tallies.extend(station::stations(&mut Rng::new(seed ^ (routines.len() as u64) << 56), size));
     tallies
+}
+
+/// Both lent tables.
+struct Both {
+    table: Lent,
+    shutters: Lent,
+}
+
+impl Both {
+    fn new(rng: &mut Rng) -> Both {
+        let table = Lent::new("table", TABLE + 8, rng);
+        Both { table, shutters: Lent::new("shutters", SHUTTER_TABLE + 8, rng) }
+    }
+
+    /// Lends these bytes or, where there are none, what the case before left.
+    fn lend(&mut self, table: Option<&[u8]>, shutters: Option<&[u8]>) {
+        self.table.lend_or_keep(table, TABLE);
+        self.shutters.lend_or_keep(shutters, SHUTTER_TABLE);
+    }
+
+    /// Everything that is wrong with what was lent: 1, 16, 3, 17.
+    fn wrong(&self) -> Vec<Refusal> {
+        let (mut table, mut shutters) = (self.table.before().to_vec(), self.shutters.before().to_vec());
+        let mut wrong = Vec::new();
+        wrong.extend(Table::open(&mut table).err());
+        wrong.extend(Shutters::open(&mut shutters).err());
+        table.resize(TABLE, 0);
+        shutters.resize(SHUTTER_TABLE, 0);
+        wrong.extend(Table::open(&mut table).and_then(|table| table.judge()).err());
+        wrong.extend(Shutters::open(&mut shutters).and_then(|shutters| shutters.judge()).err());
+        wrong
+    }
+}
+
+/// Both tables, valid, then with bytes changed in either, neither or both, and lengths that are none.
+fn damaged(rng: &mut Rng, table: &[u8], shutters: &[u8]) -> (Vec<u8>, Vec<u8>) {
+    let (mut table, mut shutters) = (table.to_vec(), shutters.to_vec());
+    let damage = rng.below(4);
+    for _ in 0..=rng.below(2) {
+        if damage & 1 == 1 {
+            inputs::damage(rng, &mut table);
+        }
+        if damage & 2 == 2 {
+            inputs::damage_shutters(rng, &mut shutters);
+        }
+    }
+    if rng.one_in(8) {
+        table.resize(inputs::length(rng, TABLE, TABLE + 8), 0);
+    }
+    if rng.one_in(8) {
+        shutters.resize(inputs::length(rng, SHUTTER_TABLE, SHUTTER_TABLE + 8), 0);
+    }
+    (table, shutters)
+}
+
+/// Levels and openings that differ between tables, each before and after.
+fn changed(table: [&[u8]; 2], shutters: [&[u8]; 2]) -> Counts {
+    // Both are the second byte of what they belong to.
+    let differ = |[before, after]: [&[u8]; 2], size: usize| {
+        before.chunks(size).zip(after.chunks(size)).take(256).filter(|(then, now)| then[1] != now[1]).count()
+    };
+    Counts { modules: differ(table, 8), shutters: differ(shutters, SHUTTER) }
 }
 
 /// A fresh receiver, by the model.

@@ -1,6 +1,10 @@
 //! Inputs for the comparison and for the timing: messages, lines, receivers, stations, tables and benches,
 //! valid and damaged.
 
+mod shutters;
+
+pub use shutters::{damage_shutters, shutter, shutters, type_0, SHUTTER, SHUTTER_TABLE};
+
 use crate::rng::Rng;
 use x10_model::burst::{frame_len, write_frame};
 use x10_model::bytes::{self, MESSAGE, RECEIVER, STATION};
@@ -38,7 +42,7 @@ pub fn function_code(rng: &mut Rng) -> u8 {
     rng.pick(&Function::ALL).code()
 }
 
-/// Five numbers that are a message.
+/// Five numbers that are a message. The timed rows have had these from the first, so few are of type 0.
 pub fn message(rng: &mut Rng) -> [u8; MESSAGE] {
     let house = rng.below(16) as u8;
     match rng.below(3) {
@@ -59,9 +63,18 @@ pub fn extended(rng: &mut Rng, house: u8) -> [u8; MESSAGE] {
     [3, house, rng.below(16) as u8, data, command]
 }
 
+/// Five numbers that are a message; of the extended ones about half are of type 0.
+fn either_type(rng: &mut Rng) -> [u8; MESSAGE] {
+    let numbers = message(rng);
+    if numbers[0] == 3 && rng.one_in(2) {
+        return type_0(rng, numbers[1]);
+    }
+    numbers
+}
+
 /// Five numbers, a message or not.
 pub fn numbers(rng: &mut Rng) -> [u8; MESSAGE] {
-    let mut numbers = message(rng);
+    let mut numbers = either_type(rng);
     if rng.one_in(3) {
         let place = rng.below(3);
         numbers[place] = edge(rng);
@@ -77,7 +90,7 @@ fn word_of(numbers: [u8; MESSAGE]) -> Word {
 /// The bits of a frame: of a message, or nine of any values, and so also unsupported codes.
 fn word(rng: &mut Rng) -> Word {
     if rng.one_in(2) {
-        return word_of(message(rng));
+        return word_of(either_type(rng));
     }
     let house = rng.below(16) as u32;
     let code = if rng.one_in(2) { rng.pick(&[10, 11, 12]) } else { rng.below(16) as u32 };
@@ -124,17 +137,19 @@ pub fn line(rng: &mut Rng, len: usize, bad: bool, line: &mut Vec<u8>) {
 }
 
 /// Bursts of a few messages for one house, each after clear half-cycles: most move levels of many
-/// modules up or down, some are not carried. Where `bad`, half-cycles that are neither 0 nor 1 stand
-/// between the others.
+/// modules, or many shutters, up or down, some are not carried. Where `bad`, half-cycles that are neither
+/// 0 nor 1 stand between the others.
 pub fn presses(rng: &mut Rng, bad: bool, line: &mut Vec<u8>) {
     line.clear();
     let house = rng.below(16) as u8;
     for _ in 0..2 + rng.below(5) {
         let unit = rng.below(16) as u8;
-        let numbers = match rng.below(4) {
+        let numbers = match rng.below(6) {
             0 => [2, house, rng.pick(&[0, 1, 6]), 0, 0],
             1 => [3, house, unit, rng.byte(), rng.pick(&[0x31, 0x33, 0x34])],
             2 => [2, house, rng.pick(&[2, 3, 4, 5]), 0, 0],
+            3 => [3, house, unit, rng.byte(), rng.pick(&[0x04, 0x05, 0x08, 0x0B, 0x0C])],
+            4 => type_0(rng, house),
             _ => extended(rng, house),
         };
         send(rng, numbers, line);
@@ -144,11 +159,22 @@ pub fn presses(rng: &mut Rng, bad: bool, line: &mut Vec<u8>) {
     }
 }
 
-/// "All lights on", or 33 for one in two, to each house in turn.
+/// "All lights on", or 33 for one in two, to each house in turn, and a message that opens every shutter.
 pub fn every_house(rng: &mut Rng, line: &mut Vec<u8>) {
     line.clear();
     for house in 0..16 {
         let numbers = if rng.one_in(2) { [2, house, 1, 0, 0] } else { [3, house, 0, 0, 0x33] };
+        send(rng, numbers, line);
+    }
+    send(rng, [3, 7, 7, 7, 0x05], line);
+}
+
+/// Shutters of a house or of every house are opened and closed again, twice, and at last opened for one in two.
+pub fn there_and_back(rng: &mut Rng, line: &mut Vec<u8>) {
+    line.clear();
+    let (open, close) = rng.pick(&[(0x04, 0x0B), (0x05, 0x0C), (0x04, 0x0C)]);
+    for command in [open, close, open, close, open].into_iter().take(4 + rng.below(2)) {
+        let numbers = [3, 9, rng.below(16) as u8, rng.byte(), command];
         send(rng, numbers, line);
     }
 }
@@ -281,7 +307,7 @@ pub fn receiver(rng: &mut Rng) -> [u8; RECEIVER] {
 
 /// Five bytes of a message as the routines write them.
 fn written(rng: &mut Rng) -> [u8; MESSAGE] {
-    let mut numbers = message(rng);
+    let mut numbers = either_type(rng);
     if numbers[0] != 3 {
         numbers[3] = 0;
         numbers[4] = 0;

@@ -5,7 +5,7 @@
 //! rounds. Lent buffers are not cleared between calls; tables and receivers start each batch from the
 //! same bytes, which are put there outside the timed part.
 
-use crate::inputs::{self, TABLE};
+use crate::inputs::{self, SHUTTER_TABLE, TABLE};
 use crate::rng::Rng;
 use std::hint::black_box;
 use std::time::Instant;
@@ -154,13 +154,14 @@ pub fn all(seed: u64, rounds: usize, only: Option<usize>) -> Vec<Row> {
     bursts(rng, &mut rows);
     let line = receivers(rng, &mut rows);
     radio(rng, &mut rows);
-    tables(rng, &mut rows);
+    tables(rng, seed, &mut rows);
     benches(rng, &mut rows);
-    let table = full_table(rng);
-    radio_route(rng, &table, &mut rows);
-    mains_route(&table, &sent_line(rng, 250), 1, "256 modules, one half-cycle a call", &mut rows);
-    mains_route(&table, &line, line.len(), "256 modules, slice of bursts, a half-cycle", &mut rows);
+    let start = Start { table: full_table(rng), shutters: full_shutters(seed) };
+    radio_route(rng, &start, &mut rows);
+    mains_route(&start, &sent_line(rng, 250), 1, "256 modules, one half-cycle a call", &mut rows);
+    mains_route(&start, &line, line.len(), "256 modules, slice of bursts, a half-cycle", &mut rows);
     stations(rng, &mut rows);
+    type_0(seed, &start, &mut rows);
     rows.rows
 }
 
@@ -272,19 +273,64 @@ fn full_table(rng: &mut Rng) -> Vec<u8> {
     table
 }
 
-fn tables(rng: &mut Rng, rows: &mut Rows) {
-    let start = full_table(rng);
+/// A table with all 256 shutters present. Its numbers are drawn apart, so that the other inputs are those
+/// of before there were shutters.
+fn full_shutters(seed: u64) -> Vec<u8> {
+    let mut shutters = vec![0; SHUTTER_TABLE];
+    inputs::shutters(&mut Rng::new(!seed), 0, false, &mut shutters);
+    shutters
+}
+
+/// What both tables have at the start of each batch.
+#[derive(Clone)]
+struct Start {
+    table: Vec<u8>,
+    shutters: Vec<u8>,
+}
+
+impl Start {
+    fn put(&mut self, start: &Start) {
+        self.table.copy_from_slice(&start.table);
+        self.shutters.copy_from_slice(&start.shutters);
+    }
+}
+
+fn tables(rng: &mut Rng, seed: u64, rows: &mut Rows) {
+    let start = Start { table: full_table(rng), shutters: full_shutters(seed) };
     let messages: Vec<[u8; 5]> = (0..256).map(|_| inputs::message(rng)).collect();
+    apply(&start, &messages, "256 modules, mixed messages, a call", rows);
+}
+
+/// Messages of type 0: for one unit, and for those of every house that are included in a lifestyle.
+fn type_0(seed: u64, start: &Start, rows: &mut Rows) {
+    let rng = &mut Rng::new(seed ^ 0xA1);
+    let units: Vec<[u8; 5]> = (0..256)
+        .map(|_| {
+            let (house, unit) = (rng.below(16) as u8, rng.below(16) as u8);
+            let data = (rng.below(8) << 5 | rng.below(26)) as u8;
+            [3, house, unit, data, rng.pick(&[0x01, 0x02, 0x03, 0x07, 0x09])]
+        })
+        .collect();
+    apply(start, &units, "256 shutters, type 0 for one unit, a call", rows);
+    let begins: Vec<[u8; 5]> = (0..256).map(|_| [3, 0, 0, rng.byte(), 0x08]).collect();
+    apply(start, &begins, "256 shutters, begin lifestyle, a call", rows);
+}
+
+fn apply(start: &Start, messages: &[[u8; 5]], timed: &'static str, rows: &mut Rows) {
     row!(
         rows,
         "apply",
-        "256 modules, mixed messages, a call",
+        timed,
         messages.len(),
         start.clone(),
-        |table| table.copy_from_slice(&start),
-        |table, lib| {
-            for &message in black_box(&messages) {
-                _ = black_box(&lib::apply(black_box(table), message.into()));
+        |lent: &mut Start| lent.put(start),
+        |lent, lib| {
+            for &message in black_box(messages) {
+                _ = black_box(&lib::apply(
+                    black_box(&mut lent.table),
+                    black_box(&mut lent.shutters),
+                    message.into(),
+                ));
             }
         }
     );
@@ -313,42 +359,47 @@ fn benches(rng: &mut Rng, rows: &mut Rows) {
     );
 }
 
-fn radio_route(rng: &mut Rng, start: &[u8], rows: &mut Rows) {
+fn radio_route(rng: &mut Rng, start: &Start, rows: &mut Rows) {
     let codes = codes(rng);
     row!(
         rows,
         "radio_route",
         "256 modules, the 544 codes, a call",
         codes.len(),
-        start.to_vec(),
-        |table| table.copy_from_slice(start),
-        |table, lib| {
+        start.clone(),
+        |lent: &mut Start| lent.put(start),
+        |lent, lib| {
             for code in black_box(&codes) {
-                _ = black_box(&lib::radio_route(black_box(table), code));
+                _ = black_box(&lib::radio_route(
+                    black_box(&mut lent.table),
+                    black_box(&mut lent.shutters),
+                    code,
+                ));
             }
         }
     );
 }
 
 /// A line handed over in slices of that many half-cycles.
-fn mains_route(start: &[u8], line: &[u8], slice: usize, timed: &'static str, rows: &mut Rows) {
+fn mains_route(start: &Start, line: &[u8], slice: usize, timed: &'static str, rows: &mut Rows) {
     row!(
         rows,
         "mains_route",
         timed,
         line.len(),
-        (fresh(), start.to_vec(), vec![0; EVENT * slice], vec![0; ANSWER * slice]),
+        (fresh(), start.clone(), vec![0; EVENT * slice], vec![0; ANSWER * slice]),
         |lent| {
             lent.0 = fresh();
-            lent.1.copy_from_slice(start);
+            lent.1.put(start);
         },
         |lent, lib| {
-            let (state, table, events, answers) = lent;
+            let (state, Start { table, shutters }, events, answers) = lent;
             for halves in black_box(line).chunks(slice) {
                 _ = black_box(&lib::mains_route(
                     black_box(state),
                     halves,
                     black_box(table),
+                    black_box(shutters),
                     black_box(events),
                     black_box(answers),
                 ));

@@ -1,19 +1,29 @@
 //! Situations that a comparison must reach, and which case is in which. Each list has what its
 //! function gives; what the model gave back decides where the input alone does not.
 
+mod shutters;
+
+pub use shutters::{beside, broken, shutter_count, type_0};
+pub use shutters::{BESIDE, BROKEN, SHUTTER_COUNTS, SHUTTER_LENGTHS, TYPE_0};
+
 use x10_model::bytes::{MESSAGE, RECEIVER, STATION};
 use x10_model::message::Refusal;
+use x10_model::tables::Counts;
 
 /// A slice's length against the one that is asked for.
 pub const LENGTHS: [&str; 5] = ["empty", "one short", "exact", "one over", "other length"];
 
 pub fn length(len: usize, asked: usize) -> &'static str {
+    length_of(&LENGTHS, len, asked)
+}
+
+pub fn length_of(names: &[&'static str; 5], len: usize, asked: usize) -> &'static str {
     match len {
-        0 => "empty",
-        _ if len + 1 == asked => "one short",
-        _ if len == asked => "exact",
-        _ if len == asked + 1 => "one over",
-        _ => "other length",
+        0 => names[0],
+        _ if len + 1 == asked => names[1],
+        _ if len == asked => names[2],
+        _ if len == asked + 1 => names[3],
+        _ => names[4],
     }
 }
 
@@ -148,23 +158,34 @@ fn only(causes: &[(bool, &'static str)]) -> Option<&'static str> {
 }
 
 /// What came among the half-cycles of one slice of the mains route.
-pub const WITHIN: [&str; 7] = [
+pub const WITHIN: [&str; 11] = [
     "half-cycle not 0 or 1",
     "half-cycle not 0 or 1 amid a frame given",
     "message not carried",
     "REPEAT of one not carried",
+    "message with an opening above 25",
+    "REPEAT of one with an opening above 25",
     "message carried after one not carried",
+    "message carried after an opening above 25",
     "one message in a slice",
     "another message in a slice",
+    "another message of type 0 in a slice",
 ];
 
-/// The counts of a slice's answers beside that of the whole call.
+/// The counts of a slice's answers beside those of the whole call: modules, then shutters.
 pub const WHOLE: [&str; 5] = [
     "whole is the answers' sum",
     "whole is less",
     "whole is 0, every level back",
     "17 to 255 modules over the whole",
     "256 modules over the whole",
+];
+pub const SHUTTER_WHOLE: [&str; 5] = [
+    "whole of shutters is the answers' sum",
+    "whole of shutters is less",
+    "whole of shutters is 0, every opening back",
+    "17 to 255 shutters over the whole",
+    "256 shutters over the whole",
 ];
 
 /// A slice of the mains route so far.
@@ -173,15 +194,19 @@ pub struct Slice {
     /// A half-cycle not 0 or 1 stood in the frame that is read.
     bad_in_frame: bool,
     not_carried: bool,
-    last_not_carried: bool,
+    too_open: bool,
+    /// Why the last message was refused.
+    last: Option<Refusal>,
     messages: usize,
+    type_0: usize,
     /// Of the answers' counts.
-    sum: usize,
+    sum: Counts,
 }
 
 impl Slice {
-    /// What comes with a half-cycle: the receiver's place before it, its event and the table's answer.
-    pub fn next(&mut self, at: u8, code: u8, answer: Result<usize, Refusal>) -> Option<&'static str> {
+    /// What comes with a half-cycle: the receiver's place before it, its event and the tables' answer.
+    pub fn next(&mut self, at: u8, event: &[u8], answer: Result<Counts, Refusal>) -> Option<&'static str> {
+        let code = event[0];
         if code == 5 {
             self.bad_in_frame |= at > 4;
             return Some("half-cycle not 0 or 1");
@@ -189,53 +214,113 @@ impl Slice {
         let bad_in_frame = self.bad_in_frame && at > 4;
         self.bad_in_frame = bad_in_frame && code == 0;
         match code {
-            1 => Some(self.message(bad_in_frame, answer)),
-            2 if self.last_not_carried => Some("REPEAT of one not carried"),
+            1 => Some(self.message(bad_in_frame, event[1] == 3 && event[5] < 16, answer)),
+            2 if self.last == Some(Refusal::NotCarried) => Some("REPEAT of one not carried"),
+            2 if self.last == Some(Refusal::Opening) => Some("REPEAT of one with an opening above 25"),
             _ => None,
         }
     }
 
-    fn message(&mut self, bad_in_frame: bool, answer: Result<usize, Refusal>) -> &'static str {
+    fn message(&mut self, bad_in_frame: bool, type_0: bool, answer: Result<Counts, Refusal>) -> &'static str {
+        let counts = answer.unwrap_or_default();
         self.messages += 1;
-        self.sum += answer.unwrap_or(0);
-        self.last_not_carried = answer.is_err();
-        self.not_carried |= self.last_not_carried;
-        if self.last_not_carried {
-            "message not carried"
-        } else if bad_in_frame {
-            "half-cycle not 0 or 1 amid a frame given"
-        } else if self.not_carried {
-            "message carried after one not carried"
-        } else if self.messages == 1 {
-            "one message in a slice"
-        } else {
-            "another message in a slice"
+        self.type_0 += usize::from(type_0);
+        self.sum.modules += counts.modules;
+        self.sum.shutters += counts.shutters;
+        self.last = answer.err();
+        match answer {
+            Err(Refusal::Opening) => {
+                self.too_open = true;
+                "message with an opening above 25"
+            }
+            Err(_) => {
+                self.not_carried = true;
+                "message not carried"
+            }
+            Ok(_) if bad_in_frame => "half-cycle not 0 or 1 amid a frame given",
+            Ok(_) if self.too_open => "message carried after an opening above 25",
+            Ok(_) if self.not_carried => "message carried after one not carried",
+            Ok(_) if self.messages == 1 => "one message in a slice",
+            Ok(_) if type_0 && self.type_0 > 1 => "another message of type 0 in a slice",
+            Ok(_) => "another message in a slice",
         }
     }
 
-    /// What the count of the whole call is to the answers' counts.
-    pub fn whole(&self, count: usize) -> Option<&'static str> {
-        match count {
-            _ if self.sum == 0 => None,
-            0 => Some("whole is 0, every level back"),
-            256 => Some("256 modules over the whole"),
-            17.. => Some("17 to 255 modules over the whole"),
-            _ if count < self.sum => Some("whole is less"),
-            _ => Some("whole is the answers' sum"),
-        }
+    /// What the counts of the whole call are to the answers' counts.
+    pub fn whole(&self, counts: Counts) -> impl Iterator<Item = &'static str> {
+        let modules = whole(&WHOLE, counts.modules, self.sum.modules);
+        modules.into_iter().chain(whole(&SHUTTER_WHOLE, counts.shutters, self.sum.shutters))
     }
 }
 
-/// What a refusal of the mains route came before: the lowest number is given.
-pub const ORDERS: [&str; 5] = ["1 before 6", "1 before 9", "3 before 6", "3 before 9", "6 before 9"];
+fn whole(names: &[&'static str; 5], count: usize, sum: usize) -> Option<&'static str> {
+    match count {
+        _ if sum == 0 => None,
+        0 => Some(names[2]),
+        256 => Some(names[4]),
+        17.. => Some(names[3]),
+        _ if count < sum => Some(names[1]),
+        _ => Some(names[0]),
+    }
+}
 
-pub fn order(given: Refusal, also: Refusal) -> &'static str {
-    match (given, also) {
-        (Refusal::Table, Refusal::State) => "1 before 6",
-        (Refusal::Table, _) => "1 before 9",
-        (Refusal::Record, Refusal::State) => "3 before 6",
-        (Refusal::Record, _) => "3 before 9",
-        _ => "6 before 9",
+/// What a refusal came before: the first in the routine's order is given. A table of a wrong length is
+/// taken to break a rule where it does so with zeros put in or bytes left out at its end. 4 and 18 never
+/// apply both, and of 12, 13 and 14 the first is looked for.
+pub const APPLY_ORDERS: [&str; 20] = [
+    "1 before 16",
+    "1 before 2",
+    "1 before 3",
+    "1 before 17",
+    "1 before 4",
+    "1 before 18",
+    "16 before 2",
+    "16 before 3",
+    "16 before 17",
+    "16 before 4",
+    "16 before 18",
+    "2 before 3",
+    "2 before 17",
+    "2 before 4",
+    "2 before 18",
+    "3 before 17",
+    "3 before 4",
+    "3 before 18",
+    "17 before 4",
+    "17 before 18",
+];
+pub const TABLE_ORDERS: [&str; 6] =
+    ["1 before 16", "1 before 3", "1 before 17", "16 before 3", "16 before 17", "3 before 17"];
+pub const RADIO_ORDERS: [&str; 12] = [
+    "1 before 12",
+    "1 before 13",
+    "1 before 14",
+    "16 before 12",
+    "16 before 13",
+    "16 before 14",
+    "3 before 12",
+    "3 before 13",
+    "3 before 14",
+    "17 before 12",
+    "17 before 13",
+    "17 before 14",
+];
+pub const MAINS_ORDERS: [&str; 9] = [
+    "1 before 6",
+    "1 before 9",
+    "16 before 6",
+    "16 before 9",
+    "3 before 6",
+    "3 before 9",
+    "17 before 6",
+    "17 before 9",
+    "6 before 9",
+];
+
+/// Names what a refusal that was given came before.
+pub fn orders(given: Refusal, wrong: impl IntoIterator<Item = Refusal>, mut reach: impl FnMut(&str)) {
+    for also in wrong.into_iter().filter(|also| *also != given) {
+        reach(&format!("{} before {}", given as u8, also as u8));
     }
 }
 

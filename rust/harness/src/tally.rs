@@ -2,7 +2,7 @@
 
 use crate::lent::Lent;
 use x10::Answer;
-use x10_model::bytes;
+use x10_model::bytes::{self, Count};
 use x10_model::message::Refusal;
 
 /// Differences of one routine that are printed; the rest are counted.
@@ -49,7 +49,7 @@ impl Tally {
     pub fn case(
         &mut self,
         rattle: Answer,
-        rust: Result<usize, Refusal>,
+        rust: Result<impl Count, Refusal>,
         lent: &mut [&mut Lent],
         told: impl FnOnce() -> String,
     ) {
@@ -82,7 +82,7 @@ impl Tally {
     }
 
     /// Counts a situation, one of those that `new` was given.
-    pub fn reach(&mut self, situation: &'static str) {
+    pub fn reach(&mut self, situation: &str) {
         let at = self.reached.iter().position(|(known, _)| *known == situation);
         self.reached[at.expect("a situation that is listed")].1 += 1;
     }

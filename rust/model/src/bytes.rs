@@ -14,9 +14,9 @@ use crate::burst::write_burst;
 use crate::message::{Function, Message, Refusal};
 use crate::radio::Command;
 use crate::receiver::{Event, Receiver};
-use crate::routes;
+use crate::routes::{self, Mains};
 use crate::station::{judge_draw, judge_half, Station};
-use crate::table::{self, Table};
+use crate::tables::{Counts, Tables};
 
 /// Bytes of a message, a receiver, a station, an event and an answer.
 pub const MESSAGE: usize = 5;
@@ -34,10 +34,28 @@ const BROKEN_UNSUPPORTED: u8 = 11;
 
 const NO_MESSAGE: [u8; MESSAGE] = [0; MESSAGE];
 
+/// What a routine counts, as the bits of its answer above the number.
+pub trait Count {
+    fn bits(self) -> u64;
+}
+
+impl Count for usize {
+    fn bits(self) -> u64 {
+        self as u64
+    }
+}
+
+/// Modules in the lowest 16 bits, then shutters.
+impl Count for Counts {
+    fn bits(self) -> u64 {
+        self.modules as u64 | (self.shutters as u64) << 16
+    }
+}
+
 /// An answer as one number: the number given back in bits 0 to 7, the count above them.
-pub fn packed(answer: Result<usize, Refusal>) -> u64 {
+pub fn packed(answer: Result<impl Count, Refusal>) -> u64 {
     match answer {
-        Ok(count) => (count as u64) << 8,
+        Ok(count) => count.bits() << 8,
         Err(refusal) => refusal as u64,
     }
 }
@@ -197,13 +215,14 @@ pub fn radio_read(code: &[u8], out: &mut [u8]) -> Result<usize, Refusal> {
     Ok(3)
 }
 
-/// Applies a message to a table; count: records whose level differs. 1, 2, 3, 4.
+/// Applies a message to both tables; counts: records whose level, and shutters whose opening, differs.
+/// 1, 16, 2, 3, 17, 4, 18.
 #[inline(never)]
-pub fn apply(table: &mut [u8], numbers: [u8; MESSAGE]) -> Result<usize, Refusal> {
-    if table.len() != table::LEN {
-        return Err(Refusal::Table);
-    }
-    table::apply(table, message(numbers)?)
+pub fn apply(table: &mut [u8], shutters: &mut [u8], numbers: [u8; MESSAGE]) -> Result<Counts, Refusal> {
+    let mut tables = Tables::open(table, shutters)?;
+    let message = message(numbers)?;
+    tables.judge()?;
+    tables.apply(message)
 }
 
 /// Makes the bytes an empty station; count 0. 6.
@@ -301,36 +320,37 @@ fn calls(stations: &mut [Station], draws: &[u8], lines: &mut [u8], marks: &mut [
     count
 }
 
-/// Applies both messages of a radio code or none; count: records whose level differs before and
-/// after the whole. 1, 3, 12, 13, 14.
+/// Applies both messages of a radio code or none; counts: as `apply`, before and after the whole. 1, 16,
+/// 3, 17, 12, 13, 14.
 #[inline(never)]
-pub fn radio_route(table: &mut [u8], code: &[u8]) -> Result<usize, Refusal> {
-    routes::radio(table, code)
+pub fn radio_route(table: &mut [u8], shutters: &mut [u8], code: &[u8]) -> Result<Counts, Refusal> {
+    routes::radio(table, shutters, code)
 }
 
 /// One step of a receiver for each half-cycle, as `receive` does it, and each message that it gives
-/// applied before the next; beside each event, what the table answered to its message, 0 where there
-/// was none. Count: records whose level differs before and after the whole. 1, 3, 6, 9.
+/// applied before the next; beside each event, what the tables answered to its message, 0 where there
+/// was none. Counts: as `apply`, before and after the whole. 1, 16, 3, 17, 6, 9.
 #[inline(never)]
 pub fn mains_route(
     state: &mut [u8],
     halves: &[u8],
     table: &mut [u8],
+    shutters: &mut [u8],
     events: &mut [u8],
     answers: &mut [u8],
-) -> Result<usize, Refusal> {
-    let mut table = Table::valid(table)?;
-    let mut receiver = receiver(state)?;
+) -> Result<Counts, Refusal> {
+    let tables = Tables::valid(table, shutters)?;
+    let receiver = receiver(state)?;
     let events = front::<EVENT>(events, halves.len())?;
     let answers = front::<ANSWER>(answers, halves.len())?;
-    let before = table.all_levels();
+    let mut mains = Mains::new(receiver, tables);
     for ((event, answer), &half) in events.iter_mut().zip(answers).zip(halves) {
-        let (heard, applied) = routes::mains(&mut receiver, half, &mut table);
+        let (heard, applied) = mains.hear(half);
         write_event(heard, event);
         *answer = packed(applied).to_le_bytes();
     }
-    state.copy_from_slice(&receiver_bytes(&receiver));
-    Ok(table.all_levels_changed(&before))
+    state.copy_from_slice(&receiver_bytes(&mains.receiver));
+    Ok(mains.changed())
 }
 
 #[cfg(test)]

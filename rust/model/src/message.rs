@@ -18,6 +18,9 @@ pub enum Refusal {
     RfComplement = 13,
     RfCode = 14,
     Fault = 15,
+    ShutterTable = 16,
+    ShutterRecord = 17,
+    Opening = 18,
 }
 
 /// Four-bit line codes of houses A to P, and of units 1 to 16.

@@ -5,7 +5,7 @@ use crate::message::{Function, Message, Refusal};
 
 /// Bytes of a table.
 pub const LEN: usize = RECORDS * RECORD + HOUSES;
-const RECORDS: usize = 256;
+pub(crate) const RECORDS: usize = 256;
 const RECORD: usize = 8;
 const HOUSES: usize = 16;
 const UNITS: usize = 16;
@@ -97,15 +97,6 @@ fn carried(message: Message) -> bool {
     }
 }
 
-/// Applies a message and counts the records whose level differs before and after: refusals 1, 2, 3
-/// and 4, which change nothing.
-pub fn apply(bytes: &mut [u8], message: Message) -> Result<usize, Refusal> {
-    let mut table = Table::open(bytes)?;
-    message.judge()?;
-    table.judge()?;
-    table.apply(message)
-}
-
 impl<'a> Table<'a> {
     /// 1 where the length is not that of a table.
     pub fn open(bytes: &'a mut [u8]) -> Result<Table<'a>, Refusal> {
@@ -117,13 +108,6 @@ impl<'a> Table<'a> {
         Ok(Table { records, heard })
     }
 
-    /// A table that may be applied to: 1, 3.
-    pub fn valid(bytes: &'a mut [u8]) -> Result<Table<'a>, Refusal> {
-        let table = Table::open(bytes)?;
-        table.judge()?;
-        Ok(table)
-    }
-
     /// 3 where a record or a house byte breaks a rule.
     pub fn judge(&self) -> Result<(), Refusal> {
         if self.records.iter().all(record_ok) && self.heard.iter().all(|&byte| byte <= 1) {
@@ -133,8 +117,8 @@ impl<'a> Table<'a> {
         }
     }
 
-    /// Applies a message that `Message::judge` lets pass to a table that `judge` lets pass. 4 where
-    /// the table does not carry it.
+    /// Applies a message that `Message::judge` lets pass to a table that `judge` lets pass, and counts
+    /// the records whose level differs before and after. 4 where the table does not carry it.
     pub fn apply(&mut self, message: Message) -> Result<usize, Refusal> {
         if !carried(message) {
             return Err(Refusal::NotCarried);
@@ -343,6 +327,14 @@ fn leave(record: &mut Record, groups: u8) {
 #[cfg(test)]
 mod tests {
     use super::*;
+    use crate::{shutters, tables};
+
+    /// Applies a message where there are no shutters.
+    fn apply(table: &mut [u8], message: Message) -> Result<usize, Refusal> {
+        let counts = tables::apply(table, &mut [0; shutters::LEN], message)?;
+        assert_eq!(counts.shutters, 0);
+        Ok(counts.modules)
+    }
 
     /// A table with one module, A1.
     fn with_a1(record: Record) -> Vec<u8> {

@@ -16,6 +16,8 @@ unsafe extern "C" {
     pub fn x10_apply(
         table: *mut u8,
         len: usize,
+        shutters: *mut u8,
+        shutters_len: usize,
         kind: u8,
         house: u8,
         third: u8,
@@ -47,7 +49,14 @@ unsafe extern "C" {
         marks: *mut u8,
         k_len: usize,
     ) -> u64;
-    pub fn x10_radio_route(table: *mut u8, len: usize, code: *const u8, code_len: usize) -> u64;
+    pub fn x10_radio_route(
+        table: *mut u8,
+        len: usize,
+        shutters: *mut u8,
+        shutters_len: usize,
+        code: *const u8,
+        code_len: usize,
+    ) -> u64;
     pub fn x10_mains_route(
         state: *mut u8,
         state_len: usize,
@@ -55,6 +64,8 @@ unsafe extern "C" {
         n: usize,
         table: *mut u8,
         len: usize,
+        shutters: *mut u8,
+        shutters_len: usize,
         events: *mut u8,
         events_len: usize,
         answers: *mut u8,

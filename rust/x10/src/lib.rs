@@ -4,9 +4,9 @@
 //! on this one by path is linked with it.
 //!
 //! The routines take any numbers and any slices, empty ones too, always end, and keep nothing between
-//! calls. The answer's number is 0, or that of the refusal, the lowest that applies; each function
-//! lists those it can give. A refusal has count 0 and changes nothing that was lent. include/x10.h
-//! says it in full.
+//! calls. The answer's number is 0, or that of the refusal, the first that applies; each function
+//! lists those it can give in their order. A refusal has count 0 and changes nothing that was lent.
+//! include/x10.h says it in full.
 //!
 //! The functions test nothing: the pointer and the length of a slice are right, and slices that are
 //! lent to be changed do not overlap, by Rust's own rules.
@@ -20,21 +20,31 @@
 //! let n = 3 + x10::burst(on, &mut line[3..]).count() as usize;
 //! assert_eq!(n, 47);
 //!
-//! // A table with one module, A1, a dark lamp; a receiver hears the line for it.
+//! // A table with one module, A1, a dark lamp, and one with no shutter; a receiver hears the line for
+//! // them.
 //! let mut table = [0; x10::TABLE_BYTES];
 //! table[0] = 1;
+//! let mut shutters = [0; x10::SHUTTER_TABLE_BYTES];
 //! let mut receiver = [0; x10::RECEIVER_BYTES];
 //! x10::receiver_fresh(&mut receiver);
 //! let mut events = [0; 47 * x10::EVENT_BYTES];
 //! let mut answers = [0; 47 * x10::ANSWER_BYTES];
-//! let answer = x10::mains_route(&mut receiver, &line[..n], &mut table, &mut events, &mut answers);
-//! assert_eq!((answer.number(), answer.modules()), (x10::number::OK, 1));
+//! let answer =
+//!     x10::mains_route(&mut receiver, &line[..n], &mut table, &mut shutters, &mut events, &mut answers);
+//! assert_eq!((answer.number(), answer.modules(), answer.shutters()), (x10::number::OK, 1, 0));
 //! assert_eq!(table[1], 63);
 //!
 //! // The message came with the frame's last half-cycle, and its repeat with the burst's.
 //! assert_eq!(Event::at(&events, 24).message(), Some(on));
 //! assert_eq!(Answer::at(&answers, 24).modules(), 1);
 //! assert_eq!(Event::at(&events, 46).code(), x10::event::REPEAT);
+//!
+//! // A shutter at P16, closed: command 05 opens those of every house.
+//! let p16 = x10::shutter_at(15, 15);
+//! shutters[p16 + x10::shutter::PRESENT] = 1;
+//! let answer = x10::apply(&mut table, &mut shutters, Message::extended(0, 0, 0, 0x05));
+//! assert_eq!((answer.number(), answer.modules(), answer.shutters()), (x10::number::OK, 0, 1));
+//! assert_eq!(shutters[p16 + x10::shutter::OPENING], 25);
 //! ```
 
 mod abi;
@@ -92,13 +102,25 @@ pub fn radio_read(code: &[u8], out: &mut [u8]) -> Answer {
     Answer::from_bits(unsafe { abi::x10_radio_read(code.as_ptr(), code.len(), out.as_mut_ptr(), out.len()) })
 }
 
-/// Applies a message to a module table of [`TABLE_BYTES`]. Modules: those whose level differs.
-/// Refusals: 1, 2, 3, 4.
+/// Applies a message to a module table of [`TABLE_BYTES`] and a shutter table of
+/// [`SHUTTER_TABLE_BYTES`]. An extended message of type 0 (command 00 to 0F) is for shutters, every
+/// other for modules. Modules: those whose level differs; shutters: those whose opening differs.
+/// Refusals: 1, 16, 2, 3, 17, 4, 18.
 #[inline]
-pub fn apply(table: &mut [u8], message: Message) -> Answer {
+pub fn apply(table: &mut [u8], shutters: &mut [u8], message: Message) -> Answer {
     let Message { kind, house, third, data, command } = message;
     Answer::from_bits(unsafe {
-        abi::x10_apply(table.as_mut_ptr(), table.len(), kind, house, third, data, command)
+        abi::x10_apply(
+            table.as_mut_ptr(),
+            table.len(),
+            shutters.as_mut_ptr(),
+            shutters.len(),
+            kind,
+            house,
+            third,
+            data,
+            command,
+        )
     })
 }
 
@@ -160,25 +182,33 @@ pub fn bench_run(messages: &[u8], loads: &[u8], draws: &[u8], lines: &mut [u8], 
     })
 }
 
-/// Applies what a radio code means to a table: both messages of on and off, or none. Modules: those
-/// whose level differs before and after the whole. Refusals: 1, 3, 12, 13, 14.
+/// Applies what a radio code means to both tables: both messages of on and off, or none. Modules and
+/// shutters: as [`apply`] has them, before and after the whole. Refusals: 1, 16, 3, 17, 12, 13, 14.
 #[inline]
-pub fn radio_route(table: &mut [u8], code: &[u8]) -> Answer {
+pub fn radio_route(table: &mut [u8], shutters: &mut [u8], code: &[u8]) -> Answer {
     Answer::from_bits(unsafe {
-        abi::x10_radio_route(table.as_mut_ptr(), table.len(), code.as_ptr(), code.len())
+        abi::x10_radio_route(
+            table.as_mut_ptr(),
+            table.len(),
+            shutters.as_mut_ptr(),
+            shutters.len(),
+            code.as_ptr(),
+            code.len(),
+        )
     })
 }
 
 /// Hands the receiver the half-cycles, as [`receive`] does, and applies each message that it gives to
-/// the table before the next half-cycle. Beside each [`Event`] stands an [`Answer`]: what the table
-/// said to the message given, 0 or 4 and its modules, and 0 where none was given. The call's own
-/// number is 0 also where the table said 4. Modules: those whose level differs before and after the
-/// whole call. Refusals: 1, 3, 6, 9.
+/// both tables before the next half-cycle. Beside each [`Event`] stands an [`Answer`]: what the tables
+/// said to the message given, 0, 4 or 18 with modules and shutters, and 0 where none was given. The
+/// call's own number is 0 also where the tables said 4 or 18. Modules and shutters: as [`apply`] has
+/// them, before and after the whole call. Refusals: 1, 16, 3, 17, 6, 9.
 #[inline]
 pub fn mains_route(
     state: &mut [u8],
     halves: &[u8],
     table: &mut [u8],
+    shutters: &mut [u8],
     events: &mut [u8],
     answers: &mut [u8],
 ) -> Answer {
@@ -190,6 +220,8 @@ pub fn mains_route(
             halves.len(),
             table.as_mut_ptr(),
             table.len(),
+            shutters.as_mut_ptr(),
+            shutters.len(),
             events.as_mut_ptr(),
             events.len(),
             answers.as_mut_ptr(),

@@ -7,11 +7,11 @@ pub const VERSION: &str = env!("CARGO_PKG_VERSION");
 /// Numbers given back: 0, or that of a refusal. PAIR and UNSUPPORTED are events of a receiver.
 pub mod number {
     pub const OK: u8 = 0;
-    /// The table's length is not 2,064.
+    /// The module table's length is not 2,064.
     pub const TABLE: u8 = 1;
     /// A house or unit above 15, or a kind or function code that makes no message.
     pub const MESSAGE: u8 = 2;
-    /// The table breaks a rule.
+    /// The module table breaks a rule.
     pub const RECORD: u8 = 3;
     /// A message that tables do not carry.
     pub const NOT_CARRIED: u8 = 4;
@@ -37,15 +37,21 @@ pub mod number {
     pub const RF_CODE: u8 = 14;
     /// A station sent 1 and heard 0.
     pub const FAULT: u8 = 15;
+    /// The shutter table's length is not 5,120.
+    pub const SHUTTER_TABLE: u8 = 16;
+    /// The shutter table breaks a rule.
+    pub const SHUTTER_RECORD: u8 = 17;
+    /// Command 01, 02, 03 or 07 with an opening or limit of 26 to 31.
+    pub const OPENING: u8 = 18;
 }
 
 /// What a number given back says, in words; "" for a number that is none.
 pub const fn text(number: u8) -> &'static str {
     match number {
         number::OK => "done",
-        number::TABLE => "TABLE: the table's length is not 2,064",
+        number::TABLE => "TABLE: the module table's length is not 2,064",
         number::MESSAGE => "MESSAGE: house or unit above 15, or no message",
-        number::RECORD => "RECORD: the table breaks a rule",
+        number::RECORD => "RECORD: the module table breaks a rule",
         number::NOT_CARRIED => "NOT CARRIED: tables do not carry this message",
         number::HALF => "HALF: a half-cycle that is not 0 or 1",
         number::STATE => "STATE: no receiver, station or bench, or an impossible one",
@@ -58,6 +64,9 @@ pub const fn text(number: u8) -> &'static str {
         number::RF_COMPLEMENT => "RF COMPLEMENT: a pair of radio bytes is not complementary",
         number::RF_CODE => "RF CODE: none of the 544 radio codes",
         number::FAULT => "FAULT: sent 1, heard 0",
+        number::SHUTTER_TABLE => "SHUTTER TABLE: the shutter table's length is not 5,120",
+        number::SHUTTER_RECORD => "SHUTTER RECORD: the shutter table breaks a rule",
+        number::OPENING => "OPENING: an opening above 25",
         _ => "",
     }
 }
@@ -141,9 +150,42 @@ pub mod record {
     pub const PRESETS: usize = 4;
 }
 
-/// Where the record of a house and unit, both 0 to 15, begins in a table.
+/// Where the record of a house and unit, both 0 to 15, begins in a module table.
 pub const fn record_at(house: u8, unit: u8) -> usize {
     (house as usize * 16 + unit as usize) * RECORD_BYTES
+}
+
+/// Where a shutter's bytes stand among its [`SHUTTER_BYTES`].
+pub mod shutter {
+    /// 0 or 1.
+    pub const PRESENT: usize = 0;
+    /// 0 (closed) to 25 (open).
+    pub const OPENING: usize = 1;
+    /// 0 to 25.
+    pub const LIMIT: usize = 2;
+    /// Sun protection, 0 or 1.
+    pub const PROTECTION: usize = 3;
+    /// Eight bytes of 0 or 1, one for each of [`crate::lifestyle`], Wake first.
+    pub const INCLUDED: usize = 4;
+    /// Eight bytes of 0 to 25 in the same order, 0 where it is not included.
+    pub const OPENINGS: usize = 12;
+}
+
+/// Lifestyles.
+pub mod lifestyle {
+    pub const WAKE: u8 = 0;
+    pub const LEAVE: u8 = 1;
+    pub const RETURN: u8 = 2;
+    pub const SLEEP: u8 = 3;
+    pub const EVENING: u8 = 4;
+    pub const VACATION: u8 = 5;
+    pub const SPECIAL_1: u8 = 6;
+    pub const SPECIAL_2: u8 = 7;
+}
+
+/// Where the bytes of the shutter of a house and unit, both 0 to 15, begin in a shutter table.
+pub const fn shutter_at(house: u8, unit: u8) -> usize {
+    (house as usize * 16 + unit as usize) * SHUTTER_BYTES
 }
 
 /// Bytes of a message in lent memory.
@@ -162,7 +204,11 @@ pub const ANSWER_BYTES: usize = 8;
 pub const TABLE_BYTES: usize = 2064;
 /// Bytes of a record of a module table.
 pub const RECORD_BYTES: usize = 8;
-/// Where a table's "command heard" bytes begin, one for each house.
+/// Where a module table's "command heard" bytes begin, one for each house.
 pub const HEARD_AT: usize = 2048;
+/// Bytes of a shutter table.
+pub const SHUTTER_TABLE_BYTES: usize = 5120;
+/// Bytes of a shutter in its table.
+pub const SHUTTER_BYTES: usize = 20;
 /// Stations of the largest bench.
 pub const MOST_STATIONS: usize = 16;

@@ -21,16 +21,21 @@ impl Answer {
         self.0 as u8
     }
 
-    /// The count, of what each routine says; 0 for a refusal. Ask [`Answer::modules`] for that of a
-    /// routine on a table.
+    /// The count, of what each routine says; 0 for a refusal. Ask [`Answer::modules`] and
+    /// [`Answer::shutters`] for those of a routine on the tables.
     pub const fn count(self) -> u64 {
         self.0 >> 8
     }
 
-    /// The count of a routine on a table: modules whose level differs. A later version may say more
-    /// in the bits above it.
+    /// A count of a routine on the tables: modules whose level differs.
     pub const fn modules(self) -> u16 {
         (self.0 >> 8) as u16
+    }
+
+    /// Its other count: shutters whose opening differs. A later version may say more in the bits above
+    /// it.
+    pub const fn shutters(self) -> u16 {
+        (self.0 >> 24) as u16
     }
 
     /// Answer `i` of those that [`crate::mains_route`] left in `answers`, which has that many.
@@ -41,6 +46,7 @@ impl Answer {
 
 const _: () = assert!(ANSWER_BYTES == size_of::<u64>());
 
+/// The count is shown as one number, also for a routine on the tables.
 impl fmt::Debug for Answer {
     fn fmt(&self, f: &mut fmt::Formatter) -> fmt::Result {
         write!(f, "number {}, count {}", self.number(), self.count())
@@ -128,8 +134,11 @@ mod tests {
     fn an_answer_in_its_bits() {
         let answer = Answer::from_bits(0x0000_0031_0002_0104);
         assert_eq!(answer.number(), number::NOT_CARRIED);
-        assert_eq!(answer.modules(), 0x0201);
+        assert_eq!((answer.modules(), answer.shutters()), (0x0201, 0x3100));
         assert_eq!(answer.count(), 0x3100_0201);
+        // The bits kept for a reply are in neither.
+        let answer = Answer::from_bits(0x0038_9401_0001_0000);
+        assert_eq!((answer.modules(), answer.shutters()), (256, 256));
     }
 
     #[test]

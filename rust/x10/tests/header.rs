@@ -32,6 +32,9 @@ fn binding_numbers() -> BTreeMap<&'static str, usize> {
         RF_COMPLEMENT: number::RF_COMPLEMENT,
         RF_CODE: number::RF_CODE,
         FAULT: number::FAULT,
+        SHUTTER_TABLE: number::SHUTTER_TABLE,
+        SHUTTER_RECORD: number::SHUTTER_RECORD,
+        OPENING: number::OPENING,
         ADDRESS: kind::ADDRESS,
         FUNCTION: kind::FUNCTION,
         EXTENDED: kind::EXTENDED,
@@ -62,6 +65,20 @@ fn binding_numbers() -> BTreeMap<&'static str, usize> {
         ADDRESSED_AT: record::ADDRESSED,
         GROUPS_AT: record::GROUPS,
         PRESETS_AT: record::PRESETS,
+        PRESENT_AT: shutter::PRESENT,
+        OPENING_AT: shutter::OPENING,
+        LIMIT_AT: shutter::LIMIT,
+        PROTECTION_AT: shutter::PROTECTION,
+        INCLUDED_AT: shutter::INCLUDED,
+        OPENINGS_AT: shutter::OPENINGS,
+        WAKE: lifestyle::WAKE,
+        LEAVE: lifestyle::LEAVE,
+        RETURN: lifestyle::RETURN,
+        SLEEP: lifestyle::SLEEP,
+        EVENING: lifestyle::EVENING,
+        VACATION: lifestyle::VACATION,
+        SPECIAL_1: lifestyle::SPECIAL_1,
+        SPECIAL_2: lifestyle::SPECIAL_2,
         MESSAGE_BYTES: MESSAGE_BYTES,
         LONGEST_BURST: LONGEST_BURST,
         RECEIVER_BYTES: RECEIVER_BYTES,
@@ -69,6 +86,8 @@ fn binding_numbers() -> BTreeMap<&'static str, usize> {
         EVENT_BYTES: EVENT_BYTES,
         ANSWER_BYTES: ANSWER_BYTES,
         TABLE_BYTES: TABLE_BYTES,
+        SHUTTER_TABLE_BYTES: SHUTTER_TABLE_BYTES,
+        SHUTTER_BYTES: SHUTTER_BYTES,
         RECORD_BYTES: RECORD_BYTES,
         HEARD_AT: HEARD_AT,
         MOST_STATIONS: MOST_STATIONS,
@@ -114,7 +133,7 @@ fn texts(function: &str) -> BTreeMap<usize, &'static str> {
 fn the_texts() {
     let numbers = texts("*x10_text(uint8_t number)");
     let functions = texts("*x10_function_name(uint8_t code)");
-    assert_eq!((numbers.len(), functions.len()), (16, 12));
+    assert_eq!((numbers.len(), functions.len()), (19, 12));
     for n in 0..=255 {
         assert_eq!(text(n), numbers.get(&usize::from(n)).copied().unwrap_or(""));
         assert_eq!(function_name(n), functions.get(&usize::from(n)).copied().unwrap_or(""));
@@ -126,6 +145,13 @@ fn where_records_begin() {
     assert_eq!((record_at(0, 0), record_at(0, 15), record_at(1, 0)), (0, 120, 128));
     assert_eq!(record_at(15, 15) + RECORD_BYTES, HEARD_AT);
     assert_eq!(HEARD_AT + 16, TABLE_BYTES);
+}
+
+#[test]
+fn where_shutters_begin() {
+    assert_eq!((shutter_at(0, 0), shutter_at(0, 15), shutter_at(1, 0)), (0, 300, 320));
+    assert_eq!(shutter_at(15, 15) + SHUTTER_BYTES, SHUTTER_TABLE_BYTES);
+    assert_eq!(shutter::OPENINGS + 8, SHUTTER_BYTES);
 }
 
 /// A parameter of the header as Rust writes it.

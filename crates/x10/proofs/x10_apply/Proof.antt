@@ -39,22 +39,28 @@ pack-requires-2 c κs = search needs
 same-length : tie.Need-same-length
 same-length c = search needs
 
-returns : tie.Need-returns
-returns c =
-    let arm = c .before .before .before .before .before .before .before in
-    let says = sym (arm .before .before .message-from .ensures .0) ∙ arm .m .given .1 in
-    let did = c .before .before .before .before .apply .ensures in
-    rw says (c .pack .ensures ∙ ap packed (c .before .tally .ensures ∙ ap tallied (did .0)), did .1 .1)
-
 same-length-2 : tie.Need-same-length-2
 same-length-2 c = search needs
 
+returns : tie.Need-returns
+returns c =
+    let arm = c .before .before .before .before .before .before .before .before .before .before in
+    let says = sym (arm .before .before .message-from .ensures .0) ∙ arm .m .given .1 in
+    let did = c .before .before .before .before .before .before .apply .ensures in
+    rw says (c .pack .ensures ∙ ap packed (c .before .tally .ensures ∙ ap tallied (did .0)), did .1 .1)
+
+same-length-3 : tie.Need-same-length-3
+same-length-3 c = search needs
+
+same-length-4 : tie.Need-same-length-4
+same-length-4 c = search needs
+
 returns-2 : tie.Need-returns-2
 returns-2 c =
-    let arm = c .before .before .before .before .before .before .before in
+    let arm = c .before .before .before .before .before .before .before .before .before .before in
     let says = sym (arm .before .before .message-from .ensures .0) ∙ arm .enum-told .given .1 in
-    let none = sym (c .before .before .before .before .before .no-message .ensures) in
-    let did = c .before .before .before .before .apply2 .ensures in
+    let none = sym (c .before .before .before .before .before .before .before .no-message .ensures) in
+    let did = c .before .before .before .before .before .before .apply2 .ensures in
     rw (says, none) (c .pack2 .ensures ∙ ap packed (c .before .tally2 .ensures ∙ ap tallied (did .0)), did .1 .1)
 
 pub x10-apply-spec : {M : Type 1} → statement M
@@ -72,6 +78,8 @@ x10-apply-spec =
     tally-requires-2
     pack-requires-2
     same-length
-    returns
     same-length-2
+    returns
+    same-length-3
+    same-length-4
     returns-2)

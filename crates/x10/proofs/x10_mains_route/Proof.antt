@@ -27,9 +27,12 @@ same-length-3 c = search needs
 same-length-4 : tie.Need-same-length-4
 same-length-4 c = search needs
 
+same-length-5 : tie.Need-same-length-5
+same-length-5 c = search needs
+
 returns : tie.Need-returns
 returns c =
-    let did = c .before .before .before .before .before .before .before .before .before .before .mains-route .ensures in
+    let did = c .before .before .before .before .before .before .before .before .before .before .before .before .mains-route .ensures in
     (c .pack .ensures ∙ ap packed (c .before .tally .ensures ∙ ap tallied (did .0)), (did .1 .1 .0, did .1 .1 .1))
 
 pub x10-mains-route-spec : {M : Type 1} → statement M
@@ -43,4 +46,5 @@ x10-mains-route-spec =
     same-length-2
     same-length-3
     same-length-4
+    same-length-5
     returns)

@@ -18,11 +18,15 @@ pack-requires c κs = search needs
 same-length : tie.Need-same-length
 same-length c = search needs
 
+same-length-2 : tie.Need-same-length-2
+same-length-2 c = search needs
+
 returns : tie.Need-returns
 returns c =
-    let did = c .before .before .before .before .radio-route .ensures in
+    let did = c .before .before .before .before .before .before .radio-route .ensures in
     (c .pack .ensures ∙ ap packed (c .before .tally .ensures ∙ ap tallied (did .0)), did .1 .1)
 
 pub x10-radio-route-spec : {M : Type 1} → statement M
 x10-radio-route-spec =
-    tie.close (tie.spec radio-route-requires tally-requires pack-requires same-length returns)
+    tie.close
+    (tie.spec radio-route-requires tally-requires pack-requires same-length same-length-2 returns)

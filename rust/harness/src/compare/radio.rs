@@ -1,6 +1,7 @@
-//! Radio bytes, and the radio's route to a table.
+//! Radio bytes, and the radio's route to both tables.
 
-use crate::inputs::{self, TABLE};
+use super::{damaged, Both};
+use crate::inputs::{self, SHUTTER_TABLE, TABLE};
 use crate::lent::Lent;
 use crate::reached;
 use crate::rng::Rng;
@@ -91,55 +92,78 @@ const MOVES: [&str; 4] = ["on moves a level", "off moves", "bright moves", "dim 
 
 struct Route {
     tally: Tally,
-    table: Lent,
+    both: Both,
     code: Lent,
 }
 
 pub fn radio_route(rng: &mut Rng, size: usize) -> Tally {
-    let situations: [&[&str]; 2] = [&MOVES, &reached::COUNTS];
+    let situations: [&[&str]; 6] = [
+        &MOVES,
+        &reached::COUNTS,
+        &reached::SHUTTER_LENGTHS,
+        &reached::TABLE_ORDERS,
+        &reached::RADIO_ORDERS,
+        &reached::BESIDE[1..2],
+    ];
     let mut route = Route {
-        tally: Tally::new("radio_route", &[0, 1, 3, 12, 13, 14], &[], &situations),
-        table: Lent::new("table", TABLE + 8, rng),
+        tally: Tally::new("radio_route", &[0, 1, 3, 12, 13, 14, 16, 17], &[], &situations),
+        both: Both::new(rng),
         code: Lent::new("code", 16, rng),
     };
-    let mut valid = vec![0; TABLE];
+    let (mut valid, mut shutters) = (vec![0; TABLE], vec![0; SHUTTER_TABLE]);
     for i in 0..8000 * size {
         inputs::table(rng, i % 4, true, &mut valid);
-        route.case(Some(&valid), rng);
+        inputs::shutters(rng, i / 4 % 4, true, &mut shutters);
+        route.case(Some((&valid, &shutters)), rng);
         for _ in 0..250 {
             route.case(None, rng);
         }
         for _ in 0..30 {
-            let mut damaged = valid.clone();
-            inputs::damage(rng, &mut damaged);
-            if rng.one_in(6) {
-                let len = inputs::length(rng, TABLE, TABLE + 8);
-                damaged.resize(len, 0);
-            }
-            route.case(Some(&damaged), rng);
+            let (table, shutters) = damaged(rng, &valid, &shutters);
+            route.case(Some((&table, &shutters)), rng);
         }
     }
     route.tally
 }
 
 impl Route {
-    /// Some code for a table of these bytes, or for the one that the case before left.
-    fn case(&mut self, from: Option<&[u8]>, rng: &mut Rng) {
-        self.table.lend_or_keep(from, TABLE);
+    /// Some code for tables of these bytes, or for those that the case before left.
+    fn case(&mut self, from: Option<(&[u8], &[u8])>, rng: &mut Rng) {
+        let Route { tally, both, code } = self;
+        both.lend(from.map(|from| from.0), from.map(|from| from.1));
         let mut bytes = [0; 8];
         bytes[..4].copy_from_slice(&inputs::radio_code(rng));
         let len = if rng.one_in(10) { inputs::length(rng, 4, 8) } else { 4 };
-        self.code.lend_bytes(&bytes[..len]);
-        let rattle = x10::radio_route(self.table.rattle(), self.code.rattle());
-        let rust = bytes::radio_route(self.table.rust(), self.code.rust());
-        if let Ok(levels) = rust {
-            let mut command = [0; 3];
-            bytes::radio_read(&bytes[..len], &mut command).expect("a code that was taken");
-            if levels > 0 {
-                self.tally.reach(MOVES[usize::from(command[0])]);
+        code.lend_bytes(&bytes[..len]);
+        let Both { table, shutters } = both;
+        let rattle = x10::radio_route(table.rattle(), shutters.rattle(), code.rattle());
+        let rust = bytes::radio_route(table.rust(), shutters.rust(), code.rust());
+        tally.reach(reached::length_of(&reached::SHUTTER_LENGTHS, shutters.before().len(), SHUTTER_TABLE));
+        tally.case(rattle, rust, &mut [table, shutters, code], || format!("code {:02x?}", &bytes[..len]));
+        let mut command = [0; 3];
+        let read = bytes::radio_read(&bytes[..len], &mut command);
+        match rust {
+            Ok(counts) => self.carried(command[0], counts.modules),
+            Err(refusal) => {
+                let wrong = both.wrong().into_iter().chain(read.err());
+                reached::orders(refusal, wrong, |order| tally.reach(order));
             }
-            self.tally.reach(reached::count(levels));
         }
-        self.tally.case(rattle, rust, &mut [&mut self.table, &mut self.code], String::new);
+    }
+
+    /// Counts what a code did, and looks at the shutters, which it must leave.
+    fn carried(&mut self, command: u8, levels: usize) {
+        let Route { tally, both: Both { table, shutters }, .. } = self;
+        if levels > 0 {
+            tally.reach(MOVES[usize::from(command)]);
+        }
+        tally.reach(reached::count(levels));
+        let function = [2, 0, 0, 0, 0];
+        reached::beside(function, table.before(), shutters.before())
+            .into_iter()
+            .for_each(|name| tally.reach(name));
+        if shutters.before() != shutters.after() {
+            tally.differ("a radio code changed the shutter table");
+        }
     }
 }

@@ -1,32 +1,56 @@
-//! Messages applied to a table.
+//! Messages applied to both tables.
 
-use super::HEARD;
-use crate::inputs::{self, TABLE};
-use crate::lent::Lent;
+use super::{changed, damaged, Both, HEARD};
+use crate::inputs::{self, SHUTTER, SHUTTER_TABLE, TABLE};
 use crate::reached;
 use crate::rng::Rng;
 use crate::tally::Tally;
 use x10_model::bytes::{self, MESSAGE};
+use x10_model::message::Refusal;
+use x10_model::tables::Counts;
 
 struct Apply {
     tally: Tally,
-    table: Lent,
+    both: Both,
 }
 
+/// Commands that are tried with every data byte: type 3 and type 0, and those beside them.
+const COMMANDS: [std::ops::Range<u8>; 2] = [0x2F..0x3F, 0x00..0x11];
+
 pub fn apply(rng: &mut Rng, size: usize) -> Tally {
-    let situations: [&[&str]; 4] = [&reached::FORMS, &reached::NAMED, &reached::COUNTS, &reached::LENGTHS];
+    let situations: [&[&str]; 12] = [
+        &reached::FORMS,
+        &reached::NAMED,
+        &reached::COUNTS,
+        &reached::LENGTHS,
+        &reached::TYPE_0,
+        &reached::SHUTTER_COUNTS,
+        &reached::SHUTTER_LENGTHS,
+        &reached::BESIDE,
+        &reached::APPLY_ORDERS,
+        &reached::BROKEN[0],
+        &reached::BROKEN[1],
+        &reached::BROKEN[2],
+    ];
     let mut apply = Apply {
-        tally: Tally::new("apply", &[0, 1, 2, 3, 4], &[], &situations),
-        table: Lent::new("table", TABLE + 8, rng),
+        tally: Tally::new("apply", &[0, 1, 2, 3, 4, 16, 17, 18], &[], &situations),
+        both: Both::new(rng),
     };
-    let mut valid = vec![0; TABLE];
+    let commands: Vec<u8> = COMMANDS.into_iter().flatten().collect();
+    let (mut valid, mut shutters) = (vec![0; TABLE], vec![0; SHUTTER_TABLE]);
     for i in 0..8000 * size {
         inputs::table(rng, i % 4, true, &mut valid);
-        apply.case(Some(&valid), inputs::numbers(rng));
-        apply.messages(rng, (0x2F + i % 16) as u8);
-        apply.damaged(rng, &valid);
+        inputs::shutters(rng, i / 4 % 4, true, &mut shutters);
+        apply.case(Some((&valid, &shutters)), inputs::numbers(rng));
+        apply.messages(rng, commands[i % commands.len()]);
+        apply.damaged(rng, &valid, &shutters);
+        if i % 1000 == 0 {
+            apply.every_type_0(rng, &valid, &mut shutters);
+        }
     }
     apply.every_byte();
+    apply.every_byte_of_a_shutter(rng);
+    apply.every_shutter(rng);
     apply.tally
 }
 
@@ -48,17 +72,26 @@ impl Apply {
     }
 
     /// Tables that were damaged, and lengths that are none.
-    fn damaged(&mut self, rng: &mut Rng, valid: &[u8]) {
+    fn damaged(&mut self, rng: &mut Rng, valid: &[u8], shutters: &[u8]) {
         for _ in 0..40 {
-            let mut damaged = valid.to_vec();
-            for _ in 0..=rng.below(2) {
-                inputs::damage(rng, &mut damaged);
+            let (table, shutters) = damaged(rng, valid, shutters);
+            self.case(Some((&table, &shutters)), inputs::numbers(rng));
+        }
+    }
+
+    /// Every command of type 0 with every data byte, for a shutter that is there and one that is not.
+    fn every_type_0(&mut self, rng: &mut Rng, valid: &[u8], shutters: &mut [u8]) {
+        let (house, there) = (rng.below(16), rng.below(16));
+        let gone = (there + 1 + rng.below(15)) % 16;
+        shutters[SHUTTER * (16 * house + there)..][..SHUTTER].copy_from_slice(&inputs::shutter(rng));
+        shutters[SHUTTER * (16 * house + gone)..][..SHUTTER].fill(0);
+        for unit in [there, gone] {
+            for command in 0..16 {
+                for data in 0..=255 {
+                    let from = Some((valid, &shutters[..]));
+                    self.case(from, [3, house as u8, unit as u8, data, command]);
+                }
             }
-            if rng.one_in(6) {
-                let len = inputs::length(rng, TABLE, TABLE + 8);
-                damaged.resize(len, 0);
-            }
-            self.case(Some(&damaged), inputs::numbers(rng));
         }
     }
 
@@ -66,28 +99,119 @@ impl Apply {
     fn every_byte(&mut self) {
         let mut base = vec![0; TABLE];
         base[..16].copy_from_slice(&[1, 40, 1, 5, 9, 0, 63, 0, 2, 63, 0, 10, 0, 63, 0, 0]);
+        let shutters = vec![0; SHUTTER_TABLE];
         for place in (0..24).chain(HEARD..TABLE) {
             for byte in 0..=255 {
                 let mut damaged = base.clone();
                 damaged[place] = byte;
-                self.case(Some(&damaged), [2, 0, 4, 0, 0]);
+                self.case(Some((&damaged, &shutters)), [2, 0, 4, 0, 0]);
             }
         }
     }
 
-    /// A message for a table of these bytes, or for the one that the case before left.
-    fn case(&mut self, from: Option<&[u8]>, numbers: [u8; MESSAGE]) {
-        self.table.lend_or_keep(from, TABLE);
-        let rattle = x10::apply(self.table.rattle(), numbers.into());
-        let rust = bytes::apply(self.table.rust(), numbers);
-        self.tally.reach(reached::length(self.table.before().len(), TABLE));
-        if let Ok(levels) = rust {
-            let (before, after) = (self.table.before(), self.table.after());
-            let form = reached::form(numbers, levels, before[..HEARD] != after[..HEARD]);
-            let situations = [form, reached::named(numbers, before)];
-            situations.into_iter().flatten().for_each(|situation| self.tally.reach(situation));
-            self.tally.reach(reached::count(levels));
+    /// Every byte at every place of the first and of the last shutter: absent, unprotected above its limit,
+    /// protected at it, in some lifestyles.
+    fn every_byte_of_a_shutter(&mut self, rng: &mut Rng) {
+        const BASES: [[u8; SHUTTER]; 4] = [
+            [0; SHUTTER],
+            [1, 20, 10, 0, 0, 0, 0, 0, 0, 0, 0, 0, 0, 0, 0, 0, 0, 0, 0, 0],
+            [1, 10, 10, 1, 1, 0, 1, 0, 1, 0, 1, 0, 25, 0, 0, 0, 9, 0, 25, 0],
+            [1, 0, 25, 1, 0, 1, 0, 1, 0, 1, 0, 1, 0, 25, 0, 7, 0, 0, 0, 25],
+        ];
+        let table = vec![0; TABLE];
+        for (base, house, at) in BASES.iter().flat_map(|base| [(base, 0, 0), (base, 15, 255 * SHUTTER)]) {
+            for place in 0..SHUTTER {
+                for byte in 0..=255 {
+                    let mut shutters = vec![0; SHUTTER_TABLE];
+                    shutters[at..][..SHUTTER].copy_from_slice(base);
+                    shutters[at + place] = byte;
+                    self.case(Some((&table, &shutters)), inputs::type_0(rng, house));
+                }
+            }
         }
-        self.tally.case(rattle, rust, &mut [&mut self.table], || format!("message {numbers:?}"));
+    }
+
+    /// All 256 shutters moved by one message: opened, closed, and put to their lifestyle's opening.
+    fn every_shutter(&mut self, rng: &mut Rng) {
+        let table = vec![0; TABLE];
+        for lifestyle in 0..8 {
+            let mut shutters = vec![0; SHUTTER_TABLE];
+            for shutter in shutters.chunks_mut(SHUTTER) {
+                shutter.copy_from_slice(&inputs::shutter(rng));
+                // Between closed and open, and in the lifestyle at another opening.
+                shutter[1..4].copy_from_slice(&[1 + rng.below(23) as u8, 24, rng.below(2) as u8]);
+                shutter[4 + lifestyle] = 1;
+                shutter[12 + lifestyle] = shutter[1] + 1;
+            }
+            for (data, command) in [(0, 0x05), (31, 0x0C), ((lifestyle as u8) << 5 | 30, 0x08)] {
+                self.case(Some((&table, &shutters)), [3, 5, 15, data, command]);
+            }
+        }
+    }
+
+    /// A message for tables of these bytes, or for those that the case before left.
+    fn case(&mut self, from: Option<(&[u8], &[u8])>, numbers: [u8; MESSAGE]) {
+        let Apply { tally, both } = self;
+        both.lend(from.map(|from| from.0), from.map(|from| from.1));
+        let Both { table, shutters } = both;
+        let rattle = x10::apply(table.rattle(), shutters.rattle(), numbers.into());
+        let rust = bytes::apply(table.rust(), shutters.rust(), numbers);
+        tally.reach(reached::length(table.before().len(), TABLE));
+        tally.reach(reached::length_of(&reached::SHUTTER_LENGTHS, shutters.before().len(), SHUTTER_TABLE));
+        tally.case(rattle, rust, &mut [table, shutters], || format!("message {numbers:?}"));
+        match rust {
+            Ok(counts) => self.carried(numbers, counts),
+            Err(refusal) => self.refused(refusal, numbers),
+        }
+    }
+
+    /// Counts what a message did, and looks at what it must leave.
+    fn carried(&mut self, numbers: [u8; MESSAGE], counts: Counts) {
+        let Apply { tally, both: Both { table, shutters } } = self;
+        let table = [table.before(), table.after()];
+        let shutters = [shutters.before(), shutters.after()];
+        did(tally, numbers, counts, table, shutters);
+        let situations = [reached::named(numbers, table[0]), reached::beside(numbers, table[0], shutters[0])];
+        situations.into_iter().flatten().for_each(|situation| tally.reach(situation));
+    }
+
+    /// Counts why a message was refused, and what else was wrong.
+    fn refused(&mut self, refusal: Refusal, numbers: [u8; MESSAGE]) {
+        let mut wrong = self.both.wrong();
+        wrong.extend(bytes::message(numbers).err());
+        if let [3, _, _, data, command] = numbers {
+            let place = [3, 0, 0, data, command];
+            wrong.extend(bytes::apply(&mut [0; TABLE], &mut [0; SHUTTER_TABLE], place).err());
+        }
+        reached::orders(refusal, wrong, |order| self.tally.reach(order));
+        if refusal == Refusal::ShutterRecord {
+            let broken = reached::broken(self.both.shutters.before());
+            broken.into_iter().for_each(|cause| self.tally.reach(cause));
+        }
+    }
+}
+
+/// Counts what a message that was carried did to tables, each before and after. Looks at its counts, and at
+/// what it must leave: type 0 the modules, any other the shutters.
+pub fn did(
+    tally: &mut Tally,
+    numbers: [u8; MESSAGE],
+    counts: Counts,
+    table: [&[u8]; 2],
+    shutters: [&[u8]; 2],
+) {
+    let left = if let [3, .., ..0x10] = numbers {
+        reached::type_0(numbers, shutters[0], shutters[1], &mut |came| tally.reach(came));
+        tally.reach(reached::shutter_count(counts.shutters));
+        table
+    } else {
+        let form = reached::form(numbers, counts.modules, table[0][..HEARD] != table[1][..HEARD]);
+        form.into_iter().for_each(|form| tally.reach(form));
+        tally.reach(reached::count(counts.modules));
+        shutters
+    };
+    if left[0] != left[1] || counts != changed(table, shutters) {
+        tally
+            .differ(&format!("message {numbers:?} changed another table, or its counts are not the changes"));
     }
 }

@@ -3,6 +3,7 @@
 use super::*;
 use crate::burst::LONGEST;
 use crate::drawn::Drawn;
+use crate::{shutters, table};
 
 const A_ON: Message = Message::Function { house: 0, function: Function::AllLightsOn };
 const A_OFF: Message = Message::Function { house: 0, function: Function::AllLightsOff };
@@ -34,20 +35,33 @@ fn room() -> Vec<u8> {
     table
 }
 
+/// A table with closed shutters at A1, A2 and P16, of which A2 is protected at limit 9.
+fn windows() -> Vec<u8> {
+    let mut table = vec![0; shutters::LEN];
+    table[0] = 1;
+    table[20..24].copy_from_slice(&[1, 0, 9, 1]);
+    table[shutters::LEN - 20] = 1;
+    table
+}
+
+fn type_0(unit: u8, data: u8, command: u8) -> Message {
+    Message::Extended { house: 0, unit, data, command }
+}
+
 /// What a call of the mains route over a whole line leaves: answer, events and answers.
 struct Run {
-    count: usize,
+    counts: Counts,
     events: Vec<u8>,
     answers: Vec<u64>,
 }
 
 impl Run {
-    fn over(state: &mut [u8], halves: &[u8], table: &mut [u8]) -> Run {
+    fn over(state: &mut [u8], halves: &[u8], table: &mut [u8], shutters: &mut [u8]) -> Run {
         let mut events = vec![9; EVENT * halves.len()];
         let mut answers = vec![9; ANSWER * halves.len()];
-        let count = mains_route(state, halves, table, &mut events, &mut answers).unwrap();
+        let counts = mains_route(state, halves, table, shutters, &mut events, &mut answers).unwrap();
         let (answers, _) = answers.as_chunks();
-        Run { count, events, answers: answers.iter().map(|&bytes| u64::from_le_bytes(bytes)).collect() }
+        Run { counts, events, answers: answers.iter().map(|&bytes| u64::from_le_bytes(bytes)).collect() }
     }
 
     /// Code and answer wherever the receiver said something.
@@ -76,7 +90,9 @@ fn impossible() -> [Receiver; 5] {
 fn an_answer_in_its_bits() {
     assert_eq!(packed(Ok(0)), 0);
     assert_eq!(packed(Ok(256)), 0x1_0000);
-    assert_eq!(packed(Err(Refusal::NotCarried)), 4);
+    assert_eq!(packed(Ok(Counts { modules: 256, shutters: 3 })), 0x0301_0000);
+    assert_eq!(packed(Ok(Counts { modules: 1, shutters: 256 })), 0x1_0000_0100);
+    assert_eq!(packed(Err::<usize, _>(Refusal::NotCarried)), 4);
 }
 
 #[test]
@@ -119,7 +135,8 @@ fn an_impossible_receiver_is_refused_and_nothing_written() {
             let mut events = [9; 2 * EVENT];
             let mut answers = [9; 2 * ANSWER];
             assert_eq!(receive(&mut state, halves, &mut events), Err(Refusal::State), "{value:?}");
-            let routed = mains_route(&mut state, halves, &mut room(), &mut events, &mut answers);
+            let (mut room, mut windows) = (room(), windows());
+            let routed = mains_route(&mut state, halves, &mut room, &mut windows, &mut events, &mut answers);
             assert_eq!(routed, Err(Refusal::State), "{value:?}");
             assert_eq!((state, events, answers), (before, [9; 2 * EVENT], [9; 2 * ANSWER]));
         }
@@ -139,47 +156,80 @@ fn a_half_cycle_that_is_none_is_an_event() {
 
 #[test]
 fn mains_route_refuses_in_order() {
-    let mut table = room();
+    let (mut table, mut shutters) = (room(), windows());
     let (mut events, mut answers) = ([7; EVENT], [7; ANSWER]);
-    let mut refused = |state: &mut [u8], table: &mut [u8], events_len: usize, answers_len: usize| {
-        let (events, answers) = (&mut events[..events_len], &mut answers[..answers_len]);
-        mains_route(state, &[2], table, events, answers)
-    };
-    assert_eq!(refused(&mut [], &mut [], 0, 0), Err(Refusal::Table));
+    let mut refused =
+        |state: &mut [u8], table: &mut [u8], shutters: &mut [u8], events_len: usize, answers_len: usize| {
+            let (events, answers) = (&mut events[..events_len], &mut answers[..answers_len]);
+            mains_route(state, &[2], table, shutters, events, answers)
+        };
+    assert_eq!(refused(&mut [], &mut [], &mut [], 0, 0), Err(Refusal::Table));
     table[0] = 3;
-    assert_eq!(refused(&mut [], &mut table, 0, 0), Err(Refusal::Record));
+    shutters[0] = 2;
+    assert_eq!(refused(&mut [], &mut table, &mut [], 0, 0), Err(Refusal::ShutterTable));
+    assert_eq!(refused(&mut [], &mut table, &mut shutters, 0, 0), Err(Refusal::Record));
     table[0] = 1;
-    assert_eq!(refused(&mut [], &mut table, 0, 0), Err(Refusal::State));
-    assert_eq!(refused(&mut fresh(), &mut table, 0, ANSWER), Err(Refusal::Short));
-    assert_eq!(refused(&mut fresh(), &mut table, EVENT - 1, ANSWER), Err(Refusal::Short));
-    assert_eq!(refused(&mut fresh(), &mut table, EVENT, ANSWER - 1), Err(Refusal::Short));
-    assert_eq!(refused(&mut fresh(), &mut table, EVENT, ANSWER), Ok(0));
-    assert_eq!((table, events, answers), (room(), [5, 0, 0, 0, 0, 0], [0; ANSWER]));
+    assert_eq!(refused(&mut [], &mut table, &mut shutters, 0, 0), Err(Refusal::ShutterRecord));
+    shutters[0] = 1;
+    let mut refused = |state: &mut [u8], events_len: usize, answers_len: usize| {
+        refused(state, &mut table, &mut shutters, events_len, answers_len)
+    };
+    assert_eq!(refused(&mut [], 0, 0), Err(Refusal::State));
+    assert_eq!(refused(&mut fresh(), 0, ANSWER), Err(Refusal::Short));
+    assert_eq!(refused(&mut fresh(), EVENT - 1, ANSWER), Err(Refusal::Short));
+    assert_eq!(refused(&mut fresh(), EVENT, ANSWER - 1), Err(Refusal::Short));
+    assert_eq!(refused(&mut fresh(), EVENT, ANSWER), Ok(Counts::default()));
+    assert_eq!((table, shutters), (room(), windows()));
+    assert_eq!((events, answers), ([5, 0, 0, 0, 0, 0], [0; ANSWER]));
 }
 
 #[test]
 fn a_message_that_is_not_carried_within_a_slice() {
     let mut table = room();
-    let run = Run::over(&mut fresh(), &line(&[NOT_CARRIED, A_ON]), &mut table);
+    let run = Run::over(&mut fresh(), &line(&[NOT_CARRIED, A_ON]), &mut table, &mut windows());
     assert_eq!(run.said(), [(GIVEN, 4), (REPEAT, 0), (GIVEN, 2 << 8), (REPEAT, 0)]);
-    assert_eq!((run.count, table[1], table[9]), (2, 63, 63));
+    assert_eq!((run.counts, table[1], table[9]), (Counts { modules: 2, shutters: 0 }, 63, 63));
+}
+
+#[test]
+fn an_opening_above_25_within_a_slice() {
+    let (mut table, mut shutters) = (room(), windows());
+    let halves = line(&[type_0(0, 26, 1), type_0(1, 25, 1), A_ON, type_0(2, 31, 7)]);
+    let run = Run::over(&mut fresh(), &halves, &mut table, &mut shutters);
+    let given: Vec<u64> = run.said().into_iter().filter(|said| said.0 == GIVEN).map(|said| said.1).collect();
+    assert_eq!(given, [18, 1 << 24, 2 << 8, 18]);
+    assert_eq!(run.counts, Counts { modules: 2, shutters: 1 });
+    assert_eq!((shutters[1], shutters[21], table[1]), (0, 9, 63));
+}
+
+#[test]
+fn openings_that_come_back_are_not_counted_over_the_whole() {
+    let mut shutters = windows();
+    // A1, A2 and P16 open, A1 and A2 close again.
+    let halves = line(&[type_0(5, 0, 0x05), type_0(5, 0, 0x0B)]);
+    let run = Run::over(&mut fresh(), &halves, &mut room(), &mut shutters);
+    assert_eq!(run.said(), [(GIVEN, 3 << 24), (REPEAT, 0), (GIVEN, 2 << 24), (REPEAT, 0)]);
+    assert_eq!(run.counts, Counts { modules: 0, shutters: 1 });
 }
 
 #[test]
 fn levels_that_come_back_are_not_counted_over_the_whole() {
     let mut table = room();
-    let run = Run::over(&mut fresh(), &line(&[A_ON, A_OFF]), &mut table);
+    let run = Run::over(&mut fresh(), &line(&[A_ON, A_OFF]), &mut table, &mut windows());
     assert_eq!(run.said(), [(GIVEN, 2 << 8), (REPEAT, 0), (GIVEN, 2 << 8), (REPEAT, 0)]);
-    assert_eq!((run.count, table[1], table[9]), (0, 0, 0));
+    assert_eq!((run.counts, table[1], table[9]), (Counts::default(), 0, 0));
 }
 
 #[test]
-fn all_256_modules_in_one_slice() {
-    let mut table = vec![0; table::LEN];
+fn all_256_of_both_in_one_slice() {
+    let (mut table, mut shutters) = (vec![0; table::LEN], vec![0; shutters::LEN]);
     table[..256 * 8].chunks_mut(8).for_each(|record| record[0] = 1);
+    shutters.chunks_mut(20).for_each(|shutter| shutter[0] = 1);
     let on = |house| Message::Function { house, function: Function::AllLightsOn };
-    let halves = line(&(0..16).map(on).collect::<Vec<_>>());
-    assert_eq!(Run::over(&mut fresh(), &halves, &mut table).count, 256);
+    let mut messages: Vec<Message> = (0..16).map(on).collect();
+    messages.push(type_0(0, 0, 0x05));
+    let run = Run::over(&mut fresh(), &line(&messages), &mut table, &mut shutters);
+    assert_eq!(run.counts, Counts { modules: 256, shutters: 256 });
 }
 
 const A1: [u8; MESSAGE] = [1, 0, 0, 0, 0];
@@ -444,7 +494,7 @@ fn some_line(drawn: &mut Drawn) -> Vec<u8> {
                 house: 0,
                 unit: drawn.below(2) as u8,
                 data: drawn.below(256) as u8,
-                command: 0x2F + drawn.below(16) as u8,
+                command: (0x30 * drawn.below(2) + drawn.below(16)) as u8,
             },
         })
         .collect();
@@ -480,21 +530,28 @@ fn a_run_of_the_mains_route_is_receive_and_apply_one_after_the_other() {
     let mut drawn = Drawn(5);
     let (mut state, mut state_singly) = (fresh(), fresh());
     let (mut table, mut table_singly) = (room(), room());
+    let (mut shutters, mut shutters_singly) = (windows(), windows());
     for _ in 0..2000 {
         let line = some_line(&mut drawn);
-        let run = Run::over(&mut state, &line, &mut table);
-        let before = table_singly.clone();
+        let run = Run::over(&mut state, &line, &mut table, &mut shutters);
+        let before = (table_singly.clone(), shutters_singly.clone());
         for ((event, &answer), &half) in run.events.chunks(EVENT).zip(&run.answers).zip(&line) {
             let mut single = [0; EVENT];
             assert_eq!(receive(&mut state_singly, &[half], &mut single), Ok(1));
             assert_eq!(event, single);
             let [code, numbers @ ..] = single;
-            let applied = if code == GIVEN { apply(&mut table_singly, numbers) } else { Ok(0) };
+            let applied = match code {
+                GIVEN => apply(&mut table_singly, &mut shutters_singly, numbers),
+                _ => Ok(Counts::default()),
+            };
             assert_eq!(answer, packed(applied));
         }
-        assert_eq!((state, &table), (state_singly, &table_singly));
-        let level = |table: &[u8], unit: usize| table[8 * unit + 1];
-        let differs = |unit: &usize| level(&before, *unit) != level(&table, *unit);
-        assert_eq!(run.count, (0..256).filter(differs).count());
+        assert_eq!((state, &table, &shutters), (state_singly, &table_singly, &shutters_singly));
+        // The byte after the first of each, which is the level or the opening.
+        let differs = |before: &[u8], after: &[u8], size: usize| {
+            (0..256).filter(|i| before[size * i + 1] != after[size * i + 1]).count()
+        };
+        let (modules, shutters) = (differs(&before.0, &table, 8), differs(&before.1, &shutters, 20));
+        assert_eq!(run.counts, Counts { modules, shutters });
     }
 }

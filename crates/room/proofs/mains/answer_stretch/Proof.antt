@@ -29,16 +29,19 @@ same-length c = search needs
 same-length-2 : tie.Need-same-length-2
 same-length-2 c = search needs
 
+same-length-3 : tie.Need-same-length-3
+same-length-3 c = search needs
+
 returns : tie.Need-returns
 returns c =
-    let a = c .before .before .before .before .before .before .before .before .before .before .before .before .before .before .args in
-    let did = c .before .before .before .before .before .before .answer-to .ensures in
-    let room = roomOf (a .table .now) in (
+    let answered = c .before .before .before .before .before .before .before .before in
+    let zeroed = answered .before .before .before .before .before in
+    let start = zeroed .before .before .before .before .before in
+    let a = start .args in
+    let did = answered .answer-to .ensures in (
       did .1,
-      stretch-put (a .answers .now) _ _ (a .from) (a .to) _ (a .given) room
-          (c .before .before .before .before .before .before .before .before .before .before .before .before .before .before .pre .1)
-          (c .before .before .before .before .before .before .before .before .before .before .no-answers .ensures) (did .0)
-          (c .before .before .put-answer .ensures),
+      stretch-put (a .answers .now) _ _ (a .from) (a .to) _ (a .given) (roomOf (a .table .now) (a .shutters .now)) (start .pre .1)
+          (zeroed .no-answers .ensures) (did .0) (c .before .before .put-answer .ensures),
     )
 
 pub answer-stretch-spec : {M : Type 1} → statement M
@@ -53,4 +56,5 @@ answer-stretch-spec =
     put-answer-requires
     same-length
     same-length-2
+    same-length-3
     returns)

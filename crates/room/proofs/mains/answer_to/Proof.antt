@@ -27,10 +27,14 @@ returns c = rw (c .enum-told .given .1) (refl, refl)
 same-length : tie.Need-same-length
 same-length c = search needs
 
+same-length-2 : tie.Need-same-length-2
+same-length-2 c = search needs
+
 returns-2 : tie.Need-returns-2
 returns-2 c =
-    let applied = c .before .before .before .before .apply-valid .ensures in
-    rw (c .before .before .before .before .before .before .before .given .given .1) (
+    let call = c .before .before .before .before .before .before in
+    let applied = call .apply-valid .ensures in
+    rw (call .before .before .before .before .given .given .1) (
       c .pack .ensures ∙ ap packed (c .before .tally .ensures
           ∙ ap tallied (applied .0)),
       applied .1,
@@ -47,4 +51,5 @@ answer-to-spec =
     pack-requires
     returns
     same-length
+    same-length-2
     returns-2)

@@ -4,33 +4,43 @@ use mathlib.Core.List.{List}
 use Prim.Native.Nat.{ℕ, _-_, _≤_}
 use native.Mathlib.Omega.{arith}
 use borrow.Author.Needs.{needs}
+use Rattle.ground.specs.Records.{differing}
+use Rattle.ground.proofs.Records.{ends-before}
 use Rattle.record.specs.Layout.{RECORDS}
-use Rattle.record.specs.ModuleTable.{changed}
-use Rattle.room.proofs.LevelsKept.{LevelsOf, changed-next}
+use Rattle.room.specs.Lent.{seconds, itself}
+use Rattle.room.proofs.SecondsKept.{SecondsOf, second-within, changed-next}
 use Rattle.room.proofs.mains.changed_from.Statement.{statement}
 use Rattle.room.proofs.mains.changed_from.Tie as tie
 
 abbrev Inv-loop : tie.InvT-loop
-Inv-loop t levels count₀ i₀ count i = (i ≤ RECORDS) × (count ≤ i) × ((before : List ℕ) → LevelsOf RECORDS before levels → count ≡ changed i before t)
+Inv-loop t size kept count₀ i₀ count i =
+    (i ≤ RECORDS) × (count ≤ i)
+    × ((before : List ℕ) → SecondsOf size RECORDS before kept → count ≡ differing (seconds size) itself i before t)
 
 abbrev μ-loop : tie.MeasureT-loop
-μ-loop t levels count₀ i₀ count i = RECORDS - i
+μ-loop t size kept count₀ i₀ count i = RECORDS - i
 
 loop-holds : tie.Need-loop-holds Inv-loop μ-loop
-unfolding changed
+unfolding differing
 loop-holds c = (omega arith, omega arith, λ before kept. refl)
 
 array-read-count-of : tie.Need-array-read-count-of Inv-loop μ-loop
 array-read-count-of c = search needs
 
 mul-count-of : tie.Need-mul-count-of Inv-loop μ-loop
-mul-count-of c = omega arith
+mul-count-of c =
+    let start = c .before .before .before in
+    omega (arith, ends-before (c .before .loop .i) RECORDS (start .args .size) (c .loop-test .taken), start .pre .2)
 
 add-count-of : tie.Need-add-count-of Inv-loop μ-loop
-add-count-of c = omega arith
+add-count-of c =
+    let start = c .before .before .before in
+    omega (arith, ends-before (c .before .loop .i) RECORDS (start .args .size) (c .loop-test .taken), start .pre .2)
 
 shared-slice-read-count-of : tie.Need-shared-slice-read-count-of Inv-loop μ-loop
-shared-slice-read-count-of c = omega (arith, c .before .before .before .before .pre)
+shared-slice-read-count-of c =
+    let start = c .before .before .before .before in
+    second-within (start .args .size) (start .args .t .now) (c .before .before .loop .i) (start .pre .0) (start .pre .1) (c .before .loop-test .taken)
 
 count-of-requires : tie.Need-count-of-requires Inv-loop μ-loop
 count-of-requires c κs = search needs
@@ -48,16 +58,19 @@ loop-again : tie.Need-loop-again Inv-loop μ-loop
 loop-again c =
     let now = c .before .before .before .loop in
     let more = c .count-of .ensures in
-    let start = c .before .before .before .before .before in (
+    let a = c .before .before .before .before .before .args in (
       omega arith,
       omega (arith, more .1, now .inv .1),
-      λ before kept. changed-next before (start .args .t .now) (start .args .t1) _ _ _ kept (c .before .before .loop-test .taken)
-          (now .inv .2 before kept) (more .0),
+      λ before kept. changed-next (a .size) before (a .t .now) (a .t1) _ _ _ kept (c .before .before .loop-test .taken) (now .inv .2 before kept)
+          (more .0),
     )
 
 returns : tie.Need-returns Inv-loop μ-loop
-returns c = λ before kept. let all : c .before .loop .i ≡ RECORDS = omega arith in c .before .loop .inv .2 before kept
-    ∙ ap (λ (n : ℕ). changed n before (c .before .before .before .args .t .now)) all
+returns c =
+    λ before kept.
+    let a = c .before .before .before .args in
+    let all : c .before .loop .i ≡ RECORDS = omega arith in
+    c .before .loop .inv .2 before kept ∙ ap (λ (n : ℕ). differing (seconds (a .size)) itself n before (a .t .now)) all
 
 pub changed-from-spec : {M : Type 1} → statement M
 changed-from-spec =

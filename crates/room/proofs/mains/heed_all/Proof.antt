@@ -1,15 +1,13 @@
 -- `heed_all` meets its contract: without a message the room stays, and else the first stretch is a turn, and `heed` takes the others. The levels
--- kept before the messages are compared with those after them.
-use mathlib.Core.Path.{sym, ap, _∙_}
+-- and openings kept before the messages are compared with those after them.
+use mathlib.Core.Path.{sym, ap₂, _∙_}
 use Prim.Native.Nat.{ℕ}
 use native.Mathlib.Omega.{arith}
-use borrow.Author.Tests.{not-true, not-false}
-use Rattle.record.specs.Layout.{RECORDS}
-use Rattle.room.specs.Rooms.{roomOf, roomOk}
-use Rattle.room.specs.Lent.{Remains}
+use Rattle.ground.proofs.Causes.{bad, fine}
+use Rattle.room.specs.Rooms.{roomOf}
 use Rattle.room.specs.declared.Changes.{Changes}
-use Rattle.room.proofs.TableLaws.{changed-none}
-use Rattle.room.proofs.HouseLaws.{whole}
+use Rattle.room.proofs.ApplyLaws.{modules-size, shutters-size, unchanged}
+use Rattle.room.proofs.SecondsKept.{levels-are, openings-are}
 use Rattle.room.proofs.MainsLaws.{turn, given-some, remains-quiet, remains-valid}
 use borrow.Author.Needs.{needs}
 use Rattle.room.proofs.mains.heed_all.Statement.{statement}
@@ -26,12 +24,14 @@ gave-requires c κs = search needs
 
 no-answers-requires : tie.Need-no-answers-requires
 no-answers-requires c κs =
-    let start = c .before .before .before .before .before .before .before .before .before .before .before .before .before in
+    let tested = c .before in
+    let ran = tested .before .before .before .before .before .before in
+    let to = tested .before .before .before .place-of in
+    let start = ran .before .before .before .before .before .before .before in
     let a = start .args in
-    let ran = c .before .before .before .before .before .before .before .run-to-message in
-    let to = c .before .before .before .before .place-of in
-    let taken = turn (a .halves .now) (a .r) 0 (a .table .now) (a .events .now) (a .answers .now) (start .pre) (ran .result) _ (to .result)
-    (ran .ensures .0) (ran .ensures .1 .1) (to .ensures) in
+    let room = roomOf (a .table .now) (a .shutters .now) in
+    let taken = turn (a .halves .now) (a .r) 0 room (a .events .now) (a .answers .now) (start .pre) (ran .run-to-message .result) _ (to .result)
+    (ran .run-to-message .ensures .0) (ran .run-to-message .ensures .1 .1) (to .ensures) in
     (omega arith, omega (arith, taken .within, start .pre .answers-space))
 
 same-length : tie.Need-same-length
@@ -42,72 +42,95 @@ same-length-2 c = search needs
 
 returns : tie.Need-returns
 returns c =
-    let start = c .before .before .before .before .before .before .before .before .before .before .before .before .before .before .before .before in
+    let tested = c .before .before .before .before in
+    let ran = tested .before .before .before .before .before .before in
+    let to = tested .before .before .before .place-of in
+    let start = ran .before .before .before .before .before .before .before in
     let a = start .args in
-    let ran = c .before .before .before .before .before .before .before .before .before .before .run-to-message in
-    let to = c .before .before .before .before .before .before .before .place-of in
-    let taken = turn (a .halves .now) (a .r) 0 (a .table .now) (a .events .now) (a .answers .now) (start .pre) (ran .result) _ (to .result)
-    (ran .ensures .0) (ran .ensures .1 .1) (to .ensures) in
-    let none = sym (c .before .before .before .before .before .gave .ensures) ∙ not-true _ (c .before .before .before .before .if1 .taken) in (
-      remains-quiet (a .halves .now) (a .r) (roomOf (a .table .now)) (a .events .now) (a .answers .now) (to .result) (ran .result .next)
-          (ran .result .given) _ _ (taken .toward) none (c .before .before .no-answers .ensures),
-      ap {B = Changes} (λ (k : ℕ). record { levels = k }) (sym (changed-none RECORDS (a .table .now))),
+    let room = roomOf (a .table .now) (a .shutters .now) in
+    let taken = turn (a .halves .now) (a .r) 0 room (a .events .now) (a .answers .now) (start .pre) (ran .run-to-message .result) _ (to .result)
+    (ran .run-to-message .ensures .0) (ran .run-to-message .ensures .1 .1) (to .ensures) in
+    let none = bad (tested .before .gave .ensures) (tested .if1 .taken) in (
+      remains-quiet (a .halves .now) (a .r) room (a .events .now) (a .answers .now) (to .result) (ran .run-to-message .result .next)
+          (ran .run-to-message .result .given) _ _ (taken .toward) none (c .before .before .no-answers .ensures),
+      sym (unchanged room),
     )
 
-levels-in-requires : tie.Need-levels-in-requires
-levels-in-requires c κs = whole _ (c .before .before .before .before .before .before .before .before .before .before .before .before .before .pre .rules) .size
+seconds-in-requires : tie.Need-seconds-in-requires
+seconds-in-requires c κs =
+    let start = c .before .before .before .before .before .before .before .before .before .before .before .before .before .before in
+    (omega (arith, modules-size _ (start .pre .rules)), omega arith, omega arith)
+
+seconds-in-requires-2 : tie.Need-seconds-in-requires-2
+seconds-in-requires-2 c κs =
+    let start = c .before .before .before .before .before .before .before .before .before .before .before .before .before .before .before .before in
+    (omega (arith, shutters-size _ (start .pre .rules)), omega arith, omega arith)
 
 answer-stretch-requires : tie.Need-answer-stretch-requires
 answer-stretch-requires c κs =
-    let start = c .before .before .before .before .before .before .before .before .before .before .before .before .before .before .before .before in
+    let tested = c .before .before .before .before .before .before .before in
+    let ran = tested .before .before .before .before .before .before in
+    let to = tested .before .before .before .place-of in
+    let start = ran .before .before .before .before .before .before .before in
     let a = start .args in
-    let ran = c .before .before .before .before .before .before .before .before .before .before .run-to-message in
-    let to = c .before .before .before .before .before .before .before .place-of in
-    let taken = turn (a .halves .now) (a .r) 0 (a .table .now) (a .events .now) (a .answers .now) (start .pre) (ran .result) _ (to .result)
-    (ran .ensures .0) (ran .ensures .1 .1) (to .ensures) in
-    let some = sym (c .before .before .before .before .before .gave .ensures)
-    ∙ not-false _ (c .before .before .before .before .if1 .left) in
-    let more = given-some (a .halves .now) (taken .toward) some in
+    let room = roomOf (a .table .now) (a .shutters .now) in
+    let taken = turn (a .halves .now) (a .r) 0 room (a .events .now) (a .answers .now) (start .pre) (ran .run-to-message .result) _ (to .result)
+    (ran .run-to-message .ensures .0) (ran .run-to-message .ensures .1 .1) (to .ensures) in
+    let more = given-some (a .halves .now) (taken .toward) (fine (tested .before .gave .ensures) (tested .if1 .left)) in
     (start .pre .rules, taken .later more, omega (arith, taken .within, start .pre .answers-space))
 
 heed-requires : tie.Need-heed-requires
 heed-requires c κs =
-    let start = c .before .before .before .before .before .before .before .before .before .before .before .before .before .before .before .before
-    .before .before .before .before .before .before .before .before in
+    let answered = c .before .before .before .before .before .before .before .before .before .before in
+    let tested = answered .before .before .before .before .before .before .before .before in
+    let ran = tested .before .before .before .before .before .before in
+    let to = tested .before .before .before .place-of in
+    let start = ran .before .before .before .before .before .before .before in
     let a = start .args in
-    let ran = c .before .before .before .before .before .before .before .before .before .before .before .before .before .before .before
-    .before .before .before .run-to-message in
-    let to = c .before .before .before .before .before .before .before .before .before .before .before .before .before .before .before .place-of in
-    let taken = turn (a .halves .now) (a .r) 0 (a .table .now) (a .events .now) (a .answers .now) (start .pre) (ran .result) _ (to .result)
-    (ran .ensures .0) (ran .ensures .1 .1) (to .ensures) in
-    let some = sym (c .before .before .before .before .before .before .before .before .before .before .before .before .before .gave .ensures)
-    ∙ not-false _ (c .before .before .before .before .before .before .before .before .before .before .before .before .if1 .left) in
-    let more = given-some (a .halves .now) (taken .toward) some in
-    let did = c .before .before .before .before .before .before .before .answer-stretch .ensures in
+    let room = roomOf (a .table .now) (a .shutters .now) in
+    let taken = turn (a .halves .now) (a .r) 0 room (a .events .now) (a .answers .now) (start .pre) (ran .run-to-message .result) _ (to .result)
+    (ran .run-to-message .ensures .0) (ran .run-to-message .ensures .1 .1) (to .ensures) in
+    let more = given-some (a .halves .now) (taken .toward) (fine (tested .before .gave .ensures) (tested .if1 .left)) in
+    let did = answered .answer-stretch .ensures in
     taken .after more _ _ (did .0) (did .1) .ready
 
 changed-from-requires : tie.Need-changed-from-requires
 changed-from-requires c κs =
-    let start = c .before .before .before .before .before .before .before .before .before .before .before .before .before .before .before .before
-    .before .before .before .before .before .before .before .before .before .before .before .before .before .before .before .before in
+    let heeded = c .before .before .before .before .before .before .before .before .before in
+    let answered = heeded .before .before .before .before .before .before .before .before .before .before .before in
+    let tested = answered .before .before .before .before .before .before .before .before in
+    let ran = tested .before .before .before .before .before .before in
+    let to = tested .before .before .before .place-of in
+    let start = ran .before .before .before .before .before .before .before in
     let a = start .args in
-    let ran = c .before .before .before .before .before .before .before .before .before .before .before .before .before .before .before .before
-    .before .before .before .before .before .before .before .before .before .before .run-to-message in
-    let to = c .before .before .before .before .before .before .before .before .before .before .before .before .before .before .before .before
-    .before .before .before .before .before .before .before .place-of in
-    let taken = turn (a .halves .now) (a .r) 0 (a .table .now) (a .events .now) (a .answers .now) (start .pre) (ran .result) _ (to .result)
-    (ran .ensures .0) (ran .ensures .1 .1) (to .ensures) in
-    let some = sym (c .before .before .before .before .before .before .before .before .before .before .before .before .before .before .before .before
-    .before .before .before .before .before .gave .ensures)
-    ∙ not-false _ (c .before .before .before .before .before .before .before .before .before .before .before .before .before .before .before .before
-    .before .before .before .before .if1 .left) in
-    let more = given-some (a .halves .now) (taken .toward) some in
-    let did = c .before .before .before .before .before .before .before .before .before .before .before .before .before .before
-    .before .answer-stretch .ensures in
-    let ready = taken .after more _ _ (did .0) (did .1) .ready in
-    let left = c .before .before .before .before .before .before .before .heed .ensures in
-    whole _ (ap (λ (x : Remains). roomOk (x .room)) left
-    ∙ remains-valid (a .halves .now) (ran .result .next) (to .result) (roomOf _) _ _ (ready .rules)) .size
+    let room = roomOf (a .table .now) (a .shutters .now) in
+    let taken = turn (a .halves .now) (a .r) 0 room (a .events .now) (a .answers .now) (start .pre) (ran .run-to-message .result) _ (to .result)
+    (ran .run-to-message .ensures .0) (ran .run-to-message .ensures .1 .1) (to .ensures) in
+    let more = given-some (a .halves .now) (taken .toward) (fine (tested .before .gave .ensures) (tested .if1 .left)) in
+    let did = answered .answer-stretch .ensures in
+    let turned = taken .after more _ _ (did .0) (did .1) in
+    let left = heeded .heed .ensures ∙ turned .same in
+    let valid = remains-valid (a .halves .now) (a .r) 0 room (a .events .now) (a .answers .now) left (start .pre .rules) in
+    (omega (arith, modules-size (roomOf _ _) valid), omega arith, omega arith)
+
+changed-from-requires-2 : tie.Need-changed-from-requires-2
+changed-from-requires-2 c κs =
+    let heeded = c .before .before .before .before .before .before .before .before .before .before .before in
+    let answered = heeded .before .before .before .before .before .before .before .before .before .before .before in
+    let tested = answered .before .before .before .before .before .before .before .before in
+    let ran = tested .before .before .before .before .before .before in
+    let to = tested .before .before .before .place-of in
+    let start = ran .before .before .before .before .before .before .before in
+    let a = start .args in
+    let room = roomOf (a .table .now) (a .shutters .now) in
+    let taken = turn (a .halves .now) (a .r) 0 room (a .events .now) (a .answers .now) (start .pre) (ran .run-to-message .result) _ (to .result)
+    (ran .run-to-message .ensures .0) (ran .run-to-message .ensures .1 .1) (to .ensures) in
+    let more = given-some (a .halves .now) (taken .toward) (fine (tested .before .gave .ensures) (tested .if1 .left)) in
+    let did = answered .answer-stretch .ensures in
+    let turned = taken .after more _ _ (did .0) (did .1) in
+    let left = heeded .heed .ensures ∙ turned .same in
+    let valid = remains-valid (a .halves .now) (a .r) 0 room (a .events .now) (a .answers .now) left (start .pre .rules) in
+    (omega (arith, shutters-size (roomOf _ _) valid), omega arith, omega arith)
 
 same-length-3 : tie.Need-same-length-3
 same-length-3 c = search needs
@@ -116,30 +139,35 @@ same-length-4 : tie.Need-same-length-4
 same-length-4 c = search needs
 
 same-length-5 : tie.Need-same-length-5
-same-length-5 c = search needs
+same-length-5 c =
+    let heeded = c .before .before .before .before .before .before .before .before .before .before .before .before in
+    let answered = heeded .before .before .before .before .before .before .before .before .before .before .before in
+    let ran = answered .before .before .before .before .before .before .before .before .before .before .before .before .before .before in
+    heeded .heed .kept .1 .1 .1 .1 .1 .0 ∙ ran .run-to-message .kept .1 .1 .1 .0
+
+same-length-6 : tie.Need-same-length-6
+same-length-6 c = search needs
 
 returns-2 : tie.Need-returns-2
 returns-2 c =
-    let start = c .before .before .before .before .before .before .before .before .before .before .before .before .before .before .before .before
-    .before .before .before .before .before .before .before .before .before .before .before .before .before .before .before .before .before in
+    let heeded = c .before .before .before .before .before .before .before .before .before .before .before .before in
+    let answered = heeded .before .before .before .before .before .before .before .before .before .before .before in
+    let kept = answered .before .before .before .before in
+    let tested = kept .before .before .before .before in
+    let ran = tested .before .before .before .before .before .before in
+    let to = tested .before .before .before .place-of in
+    let start = ran .before .before .before .before .before .before .before in
     let a = start .args in
-    let ran = c .before .before .before .before .before .before .before .before .before .before .before .before .before .before .before .before
-    .before .before .before .before .before .before .before .before .before .before .before .run-to-message in
-    let to = c .before .before .before .before .before .before .before .before .before .before .before .before .before .before .before .before
-    .before .before .before .before .before .before .before .before .place-of in
-    let taken = turn (a .halves .now) (a .r) 0 (a .table .now) (a .events .now) (a .answers .now) (start .pre) (ran .result) _ (to .result)
-    (ran .ensures .0) (ran .ensures .1 .1) (to .ensures) in
-    let some = sym (c .before .before .before .before .before .before .before .before .before .before .before .before .before .before .before .before
-    .before .before .before .before .before .before .gave .ensures)
-    ∙ not-false _ (c .before .before .before .before .before .before .before .before .before .before .before .before .before .before .before .before
-    .before .before .before .before .before .if1 .left) in
-    let more = given-some (a .halves .now) (taken .toward) some in
-    let did = c .before .before .before .before .before .before .before .before .before .before .before .before .before .before .before
-    .before .answer-stretch .ensures in
-    let count = c .changed-from .ensures (a .table .now) (c .before .before .before .before .before .before .before .before .before .before
-    .before .before .before .before .before .before .before .before .before .levels-in .ensures) in (
-      c .before .before .before .before .before .before .before .before .heed .ensures ∙ taken .after more _ _ (did .0) (did .1) .same,
-      ap {B = Changes} (λ (k : ℕ). record { levels = k }) count,
+    let room = roomOf (a .table .now) (a .shutters .now) in
+    let taken = turn (a .halves .now) (a .r) 0 room (a .events .now) (a .answers .now) (start .pre) (ran .run-to-message .result) _ (to .result)
+    (ran .run-to-message .ensures .0) (ran .run-to-message .ensures .1 .1) (to .ensures) in
+    let more = given-some (a .halves .now) (taken .toward) (fine (tested .before .gave .ensures) (tested .if1 .left)) in
+    let did = answered .answer-stretch .ensures in
+    let turned = taken .after more _ _ (did .0) (did .1) in
+    let levels = c .before .before .changed-from .ensures (a .table .now) (kept .before .before .seconds-in .ensures) in
+    let openings = c .changed-from2 .ensures (a .shutters .now) (kept .seconds-in2 .ensures) in (
+      heeded .heed .ensures ∙ turned .same,
+      ap₂ {C = Changes} (λ (x y : ℕ). record { levels = x; openings = y }) (levels ∙ levels-are _ _) (openings ∙ openings-are _ _),
     )
 
 pub heed-all-spec : {M : Type 1} → statement M
@@ -153,11 +181,14 @@ heed-all-spec =
     same-length
     same-length-2
     returns
-    levels-in-requires
+    seconds-in-requires
+    seconds-in-requires-2
     answer-stretch-requires
     heed-requires
     changed-from-requires
+    changed-from-requires-2
     same-length-3
     same-length-4
     same-length-5
+    same-length-6
     returns-2)

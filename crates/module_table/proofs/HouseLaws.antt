@@ -1,0 +1,146 @@
+-- Laws of a house's records stepped and of an act run, record by record and byte by byte.
+--
+--     length-step, step-own, step-other, step-byte    a house's records stepped, by ground's laws: the length, a record of the house and another,
+--                                                     a byte that is not the house's
+--     step-house-at                                   houses' own bytes after the steps
+--     run-length, run-record, run-byte                the same after an act is run
+--     run-house, run-house-other                      houses' own bytes after it
+--     Whole, whole                                    the three parts of a valid table
+--     run-stays-valid                                 a valid table stays valid
+use mathlib.Core.Path.{_≡_, refl, subst, _∙_}
+use mathlib.Core.Bool.{Bool, true, false, _&&_, and-eq-true-iff}
+use mathlib.Core.List.{List}
+use mathlib.Core.Logic.{inl, inr}
+use Prim.Native.Nat.{ℕ, _+_, _*_, _/_, _%_, _≤_, _<_}
+use native.Mathlib.Omega.{arith}
+use native.Mathlib.Decide.{decLt, ℕ-discrete}
+use borrow.Author.Tests.{eqb-true, eqb-false}
+use lib.Dec.{eqb}
+use lib.ListN.{length, getD}
+use Rattle.ground.specs.Choice.{pick}
+use Rattle.ground.specs.Records.{stepEach}
+use Rattle.ground.proofs.Choices.{pick-both}
+use Rattle.ground.proofs.Records.{Apart, each-length, each-other, each-at, each-byte, below-at, below-all}
+use Rattle.plan.specs.declared.Act.{Act}
+use Rattle.record.specs.declared.House.{House}
+use Rattle.record.specs.Layout.{RECORD-BYTES, UNITS, HOUSES, RECORDS, HEARD-AT, TABLE-BYTES, recordAt, modules, houseAt}
+use Rattle.record.specs.ModuleTable.{recordOk, houseOk, recordsOk, housesOk, tableOk, stepRecord, houseAfter, runAct}
+use Rattle.record.proofs.RecordLaws.{record-stays-valid, house-stays-valid}
+use Rattle.module_table.proofs.TableLaws.{modules-laid, step-keeps, length-put-house, byte-put-house, record-put-house}
+use Rattle.module_table.proofs.TableLaws.{house-put-own, house-put-other}
+
+-- ---- a house's records stepped
+
+module _ (a : Act) (own : House) (h : ℕ) (t : List ℕ) where
+  -- the table with the sixteen records of the house stepped
+  abbrev pub stepped : List ℕ
+  stepped = stepEach modules (stepRecord a own) (h * UNITS) UNITS t
+
+  pub length-step : length stepped ≡ length t
+  length-step = each-length modules modules-laid (stepRecord a own) (step-keeps a own) (h * UNITS) t UNITS
+
+  pub step-own : (k : ℕ) → k < UNITS → h < HOUSES → length t ≡ TABLE-BYTES
+      → recordAt stepped (h * UNITS + k) ≡ stepRecord a own k (recordAt t (h * UNITS + k))
+  step-own k below house size = each-at modules modules-laid (stepRecord a own) (step-keeps a own) (h * UNITS) t UNITS k below (omega arith)
+
+  pub step-other : (j : ℕ) → (j / UNITS ≡ h → ⊥) → recordAt stepped j ≡ recordAt t j
+  step-other j other = each-other modules modules-laid (stepRecord a own) (step-keeps a own) (h * UNITS) t UNITS j (λ k hk e. other (omega arith))
+
+  pub step-byte : (j : ℕ) → (j / (UNITS * RECORD-BYTES) ≡ h → ⊥) → getD stepped j 0 ≡ getD t j 0
+  step-byte j other =
+      each-byte modules modules-laid (stepRecord a own) (step-keeps a own) (h * UNITS) t UNITS j 0
+      (λ k hk. go k hk (decLt j ((h * UNITS + k) * RECORD-BYTES)))
+    where
+      go : (k : ℕ) → k < UNITS → Dec (j < (h * UNITS + k) * RECORD-BYTES) → Apart modules (h * UNITS + k) j
+      go k hk (yes before) = inl before
+      go k hk (no behind) = inr (let low : h * 128 ≤ j = omega arith in let other′ : j / 128 ≡ h → ⊥ = other in omega arith)
+
+  pub step-house-at : (g : ℕ) → h < HOUSES → houseAt stepped g ≡ houseAt t g
+  unfolding houseAt
+  step-house-at g house =
+      rw (each-byte modules modules-laid (stepRecord a own) (step-keeps a own) (h * UNITS) t UNITS (HEARD-AT + g) 0 (λ k hk. inr (omega arith)))
+
+-- ---- an act run
+
+module _ (a : Act) (h : ℕ) (t : List ℕ) where
+  -- the house's own bytes before, and the table with its records stepped by them
+  abbrev own : House
+  own = houseAt t h
+
+  abbrev after : List ℕ
+  after = stepped a own h t
+
+  pub run-length : length (runAct a h t) ≡ length t
+  unfolding runAct
+  run-length = length-put-house after h (houseAfter a own) ∙ length-step a own h t
+
+  -- the record of each place, of the house and of another
+  pub run-record : (i : ℕ) → i < RECORDS → length t ≡ TABLE-BYTES
+      → recordAt (runAct a h t) i ≡ pick (eqb (i / UNITS) h) (stepRecord a (houseAt t h) (i % UNITS) (recordAt t i)) (recordAt t i)
+  unfolding runAct
+  run-record i below size = record-put-house after i h (houseAfter a own) below ∙ go (eqb (i / UNITS) h) refl
+    where
+      go : (b : Bool) → eqb (i / UNITS) h ≡ b → recordAt after i ≡ pick b (stepRecord a own (i % UNITS) (recordAt t i)) (recordAt t i)
+      go true e =
+          let ours : i / UNITS ≡ h = eqb-true (i / UNITS) h e in
+          let place : h * UNITS + i % UNITS ≡ i = omega arith in
+          subst (λ (j : ℕ). recordAt after j ≡ stepRecord a own (i % UNITS) (recordAt t j)) place
+          (step-own a own h t (i % UNITS) (omega arith) (omega arith) size)
+      go false e = step-other a own h t i (eqb-false (i / UNITS) h e)
+
+  -- a byte that is not the house's
+  pub run-byte : (k : ℕ) → (k / (UNITS * RECORD-BYTES) ≡ h → ⊥) → (k ≡ HEARD-AT + h → ⊥) → getD (runAct a h t) k 0 ≡ getD t k 0
+  unfolding runAct
+  run-byte k other past = byte-put-house after h k (houseAfter a own) past ∙ step-byte a own h t k other
+
+  module _ (house : h < HOUSES) where
+    -- the house's own bytes, and another house's
+    pub run-house : length t ≡ TABLE-BYTES → houseAt (runAct a h t) h ≡ houseAfter a (houseAt t h)
+    unfolding runAct
+    run-house size = house-put-own after h (houseAfter a own) (omega (arith, length-step a own h t))
+
+    pub run-house-other : (g : ℕ) → (g ≡ h → ⊥) → houseAt (runAct a h t) g ≡ houseAt t g
+    unfolding runAct
+    run-house-other g other = house-put-other after h g (houseAfter a own) other ∙ step-house-at a own h t g house
+
+-- ---- a valid table
+
+pub record Whole (t : List ℕ) : Type 0 where
+  pub long : eqb (length t) TABLE-BYTES ≡ true
+  pub size : length t ≡ TABLE-BYTES
+  pub records : recordsOk RECORDS t ≡ true
+  pub houses : housesOk HOUSES t ≡ true
+
+pub whole : (t : List ℕ) → tableOk t ≡ true → Whole t
+unfolding tableOk
+whole t e =
+    let p = and-eq-true-iff (eqb (length t) TABLE-BYTES && recordsOk RECORDS t) (housesOk HOUSES t) .0 e in
+    let q = and-eq-true-iff (eqb (length t) TABLE-BYTES) (recordsOk RECORDS t) .0 (p .0) in
+    record { long = q .0; size = eqb-true (length t) TABLE-BYTES (q .0); records = q .1; houses = p .1 }
+
+module _ (a : Act) (h : ℕ) (t : List ℕ) (house : h < HOUSES) (ok : tableOk t ≡ true) where
+  records-stay : (i : ℕ) → i < RECORDS → recordOk (recordAt (runAct a h t) i) ≡ true
+  records-stay i below =
+      let before = below-at (λ k. recordOk (recordAt t k)) RECORDS (whole t ok .records) i below in
+      rw (run-record a h t i below (whole t ok .size))
+      (pick-both (λ r. recordOk r ≡ true) (eqb (i / UNITS) h) _ _ (record-stays-valid a (houseAt t h) (i % UNITS) (recordAt t i) before) before)
+
+  houses-stay : (g : ℕ) → g < HOUSES → houseOk (houseAt (runAct a h t) g) ≡ true
+  houses-stay g below = go (ℕ-discrete g h)
+    where
+      before : (k : ℕ) → k < HOUSES → houseOk (houseAt t k) ≡ true
+      before = below-at (λ k. houseOk (houseAt t k)) HOUSES (whole t ok .houses)
+
+      go : Dec (g ≡ h) → houseOk (houseAt (runAct a h t) g) ≡ true
+      go (yes same) = rw (same, run-house a h t house (whole t ok .size)) (house-stays-valid a (houseAt t h) (before h house))
+      go (no other) = rw (run-house-other a h t house g other) (before g below)
+
+  pub run-stays-valid : tableOk (runAct a h t) ≡ true
+  unfolding tableOk
+  run-stays-valid =
+      rw (
+        run-length a h t,
+        whole t ok .long,
+        below-all (λ i. recordOk (recordAt (runAct a h t) i)) RECORDS records-stay,
+        below-all (λ g. houseOk (houseAt (runAct a h t) g)) HOUSES houses-stay,
+      )

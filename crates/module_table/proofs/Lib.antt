@@ -1,0 +1,4 @@
+pub mod TableLaws
+pub mod StillLaws
+pub mod HouseLaws
+pub mod Runs

@@ -1,0 +1,84 @@
+-- `store` meets its contract: the eight stores are the definition's run of stores.
+use native.Mathlib.Omega.{arith}
+use native.Mathlib.Numerals.{towards-suc}
+use lib.ListN.{length-set}
+use borrow.Author.Needs.{needs}
+use Rattle.module_table.proofs.store.Statement.{statement}
+use Rattle.module_table.proofs.store.Tie as tie
+
+mul-at : tie.Need-mul-at
+mul-at c = search needs
+
+slice-write-t : tie.Need-slice-write-t
+slice-write-t c = search needs
+
+add-t : tie.Need-add-t
+add-t c = search needs
+
+slice-write-t-2 : tie.Need-slice-write-t-2
+slice-write-t-2 c = simp length-set (omega arith)
+
+add-t-2 : tie.Need-add-t-2
+add-t-2 c = search needs
+
+slice-write-t-3 : tie.Need-slice-write-t-3
+slice-write-t-3 c = simp length-set (omega arith)
+
+add-t-3 : tie.Need-add-t-3
+add-t-3 c = search needs
+
+slice-write-t-4 : tie.Need-slice-write-t-4
+slice-write-t-4 c = simp length-set (omega arith)
+
+add-t-4 : tie.Need-add-t-4
+add-t-4 c = search needs
+
+slice-write-t-5 : tie.Need-slice-write-t-5
+slice-write-t-5 c = simp length-set (omega arith)
+
+add-t-5 : tie.Need-add-t-5
+add-t-5 c = search needs
+
+slice-write-t-6 : tie.Need-slice-write-t-6
+slice-write-t-6 c = simp length-set (omega arith)
+
+add-t-6 : tie.Need-add-t-6
+add-t-6 c = search needs
+
+slice-write-t-7 : tie.Need-slice-write-t-7
+slice-write-t-7 c = simp length-set (omega arith)
+
+add-t-7 : tie.Need-add-t-7
+add-t-7 c = search needs
+
+slice-write-t-8 : tie.Need-slice-write-t-8
+slice-write-t-8 c = simp length-set (omega arith)
+
+same-length : tie.Need-same-length
+same-length c = search needs
+
+returns : tie.Need-returns
+returns c = simp towards-suc
+
+pub store-spec : {M : Type 1} → statement M
+store-spec =
+    tie.close
+    (tie.spec
+    mul-at
+    slice-write-t
+    add-t
+    slice-write-t-2
+    add-t-2
+    slice-write-t-3
+    add-t-3
+    slice-write-t-4
+    add-t-4
+    slice-write-t-5
+    add-t-5
+    slice-write-t-6
+    add-t-6
+    slice-write-t-7
+    add-t-7
+    slice-write-t-8
+    same-length
+    returns)

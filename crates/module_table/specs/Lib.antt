@@ -1,0 +1,2 @@
+pub mod ModuleRuns
+pub mod Reaches

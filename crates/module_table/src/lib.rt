@@ -1,0 +1,311 @@
+// The lent bytes of a module table: whether they keep its rules, and an act run on the records of a house.
+use ground::CountAnswer;
+use ground::Refusal;
+use ground::count_of;
+use message::Function;
+use plan::Act;
+use record::HEARD_AT;
+use record::HOUSES;
+use record::House;
+use record::RECORD_BYTES;
+use record::RECORDS;
+use record::Record;
+use record::TABLE_BYTES;
+use record::UNITS;
+use record::house_valid;
+use record::step::addressed_after;
+use record::step::groups_after;
+use record::step::house_after;
+use record::step::keeps_groups;
+use record::step::level_after;
+ghost use mathlib.Core.Path.{_≡_};
+ghost use mathlib.Core.Bool.{true, false};
+ghost use Prim.Native.Nat.{ℕ, _*_, _<_};
+ghost use lib.ListN.{length};
+ghost use Rattle.ground.specs.Choice.{pick};
+ghost use Rattle.ground.specs.Records.{stepEach, Stepped};
+ghost use Rattle.record.specs.declared.Record.{Record};
+ghost use Rattle.record.specs.declared.House.{House};
+ghost use Rattle.record.specs.Layout.{RECORDS, HOUSES, UNITS, TABLE-BYTES, present, recordAt, modules, put, houseAt, putHouse};
+ghost use Rattle.record.specs.ModuleTable.{recordOk, houseOk, recordsOk, housesOk, tableOk, obeyed, stepRecord, levelOf, runAct, changed};
+ghost use Rattle.record.specs.Parts.{keepsGroups};
+ghost use Rattle.module_table.specs.ModuleRuns.{runAnswer, tableAfter};
+ghost use Rattle.module_table.specs.Reaches.{mayChange, Spares};
+
+// Record i of a table.
+fn load(t: &[u8], i: usize) -> Record
+    requires { ⌜ (length (now t) ≡ TABLE-BYTES) × (i < RECORDS) ⌝ }
+    ensures { λ r. ⌜ r ≡ recordAt (now (t .entry)) i ⌝ }
+{
+    let at = i * RECORD_BYTES;
+    Record {
+        kind: t[at],
+        level: t[at + 1],
+        addressed: t[at + 2],
+        mask: t[at + 3],
+        preset0: t[at + 4],
+        preset1: t[at + 5],
+        preset2: t[at + 6],
+        preset3: t[at + 7],
+    }
+}
+
+// Puts a record at place i of a table.
+fn store(t: &mut [u8], i: usize, r: Record)
+    requires { ⌜ (length (now t) ≡ TABLE-BYTES) × (i < RECORDS) ⌝ }
+    ensures { λ _. ⌜ now (t .exit) ≡ put (now (t .entry)) i r ⌝ }
+{
+    let at = i * RECORD_BYTES;
+    t[at] = r.kind;
+    t[at + 1] = r.level;
+    t[at + 2] = r.addressed;
+    t[at + 3] = r.mask;
+    t[at + 4] = r.preset0;
+    t[at + 5] = r.preset1;
+    t[at + 6] = r.preset2;
+    t[at + 7] = r.preset3;
+}
+
+// The bytes of a house beside its records': read here, and written below, and nowhere else.
+fn house_at(t: &[u8], house: usize) -> House
+    requires { ⌜ (length (now t) ≡ TABLE-BYTES) × (house < HOUSES) ⌝ }
+    ensures { λ r. ⌜ r ≡ houseAt (now (t .entry)) house ⌝ }
+{
+    House {
+        heard: t[HEARD_AT + house],
+    }
+}
+
+fn put_house(t: &mut [u8], house: usize, own: House)
+    requires { ⌜ (length (now t) ≡ TABLE-BYTES) × (house < HOUSES) ⌝ }
+    ensures { λ _. ⌜ now (t .exit) ≡ putHouse (now (t .entry)) house own ⌝ }
+{
+    t[HEARD_AT + house] = own.heard;
+}
+
+// Whether record i of a table keeps the rules.
+fn record_ok(t: &[u8], i: usize) -> bool
+    requires { ⌜ (length (now t) ≡ TABLE-BYTES) × (i < RECORDS) ⌝ }
+    ensures { λ r. ⌜ r ≡ recordOk (recordAt (now (t .entry)) i) ⌝ }
+{
+    let at = i * RECORD_BYTES;
+    record::valid(
+        t[at],
+        t[at + 1],
+        t[at + 2],
+        t[at + 3],
+        t[at + 4],
+        t[at + 5],
+        t[at + 6],
+        t[at + 7],
+    )
+}
+
+// Whether each record keeps the rules. Every one is tested: with no early way out the tests run side by side.
+fn records_ok(t: &[u8]) -> bool
+    requires { ⌜ length (now t) ≡ TABLE-BYTES ⌝ }
+    ensures { λ r. ⌜ r ≡ recordsOk RECORDS (now (t .entry)) ⌝ }
+{
+    let mut ok = true;
+    let mut i = 0;
+    while i < RECORDS {
+        ok = ok & record_ok(t, i);
+        i += 1;
+    }
+    ok
+}
+
+// Whether a house's own bytes keep the rules.
+fn house_ok(t: &[u8], house: usize) -> bool
+    requires { ⌜ (length (now t) ≡ TABLE-BYTES) × (house < HOUSES) ⌝ }
+    ensures { λ r. ⌜ r ≡ houseOk (houseAt (now (t .entry)) house) ⌝ }
+{
+    let own = house_at(t, house);
+    house_valid(own.heard)
+}
+
+// Whether each house's own bytes do.
+fn houses_ok(t: &[u8]) -> bool
+    requires { ⌜ length (now t) ≡ TABLE-BYTES ⌝ }
+    ensures { λ r. ⌜ r ≡ housesOk HOUSES (now (t .entry)) ⌝ }
+{
+    let mut ok = true;
+    let mut h = 0;
+    while h < HOUSES {
+        ok = ok & house_ok(t, h);
+        h += 1;
+    }
+    ok
+}
+
+// Whether the bytes are a table that keeps the rules.
+pub fn valid(t: &[u8]) -> bool
+    ensures { λ r. ⌜ r ≡ tableOk (now (t .entry)) ⌝ }
+{
+    if t.len() != TABLE_BYTES {
+        return false;
+    }
+    records_ok(t) & houses_ok(t)
+}
+
+// Which records of a house may change: that of one unit, and those whose "addressed" byte is `floor` or more. A unit above 15 is none,
+// a floor of 0 is any record, 1 those that are addressed, and 2 none, since that byte is 0 or 1.
+struct Reach {
+    unit: u8,
+    floor: u8,
+}
+
+fn reaching(unit: u8, floor: u8) -> Reach
+    ensures { λ o. ⌜ o ≡ record { unit = unit; floor = floor } ⌝ }
+{
+    Reach {
+        unit: unit,
+        floor: floor,
+    }
+}
+
+// The floor of an address, by whether the house has heard a command.
+fn address_floor(heard: bool) -> u8
+    ensures { λ x. ⌜ x ≡ pick heard 1 2 ⌝ }
+{
+    if heard { 1 } else { 2 }
+}
+
+// Which records a function may change.
+fn reach_by(f: Function) -> Reach
+    ensures { λ o. ⌜ ((n : ℕ) (r : Record) → mayChange o n r ≡ false → obeyed f r ≡ r) ⌝ }
+{
+    match f {
+        Function::On => reaching(255, 1),
+        Function::Off => reaching(255, 1),
+        Function::Dim => reaching(255, 1),
+        Function::Bright => reaching(255, 1),
+        Function::AllLightsOn => reaching(255, 0),
+        Function::AllLightsOff => reaching(255, 0),
+        Function::AllUnitsOff => reaching(255, 0),
+        Function::HailRequest => reaching(255, 2),
+        Function::HailAcknowledge => reaching(255, 2),
+        Function::StatusOn => reaching(255, 2),
+        Function::StatusOff => reaching(255, 2),
+        Function::StatusRequest => reaching(255, 2),
+    }
+}
+
+// Which records an act may change, by the house's own bytes.
+fn reach_of(act: Act, own: House) -> Reach
+    ensures { λ o. ⌜ Spares act own o ⌝ }
+{
+    match act {
+        Act::Nothing => reaching(255, 2),
+        Act::Address { unit } => reaching(unit, address_floor(own.heard == 1)),
+        Act::Obey(f) => reach_by(f),
+        Act::Join { unit, group: _ } => reaching(unit, 2),
+        Act::Level { unit, level: _ } => reaching(unit, 2),
+        Act::JoinAt {
+            unit,
+            group: _,
+            level: _,
+        } => reaching(unit, 2),
+        Act::UnitsOn => reaching(255, 0),
+        Act::UnitsOff => reaching(255, 0),
+        Act::Leave { unit, groups: _ } => reaching(unit, 2),
+        Act::LeaveHouse { groups: _ } => reaching(255, 0),
+        Act::Execute { group: _ } => reaching(255, 0),
+        Act::GroupOff { group: _ } => reaching(255, 0),
+        Act::GroupDim { group: _ } => reaching(255, 0),
+        Act::GroupBright { group: _ } => reaching(255, 0),
+    }
+}
+
+// Steps record i of a table, as that of unit n, where a module is there and the act keeps its groups: two of its bytes are stored.
+// Answers 1 where its level changed.
+fn step_level(t: &mut [u8], i: usize, act: Act, own: House, n: u8) -> usize
+    requires { ⌜ (length (now t) ≡ TABLE-BYTES) × (i < RECORDS) × (present (recordAt (now t) i) ≡ true) × (keepsGroups act ≡ true) ⌝ }
+    ensures { λ r. ⌜ Stepped modules levelOf (stepRecord act own n) i (now (t .entry)) (now (t .exit)) r ⌝ }
+{
+    let before = load(t, i);
+    let level = level_after(act, n, before);
+    let addressed = addressed_after(act, own, n, before);
+    let at = i * RECORD_BYTES;
+    t[at + 1] = level;
+    t[at + 2] = addressed;
+    count_of(before.level == level)
+}
+
+// The same where the act may change its groups. No level changes, whatever the house's own bytes.
+fn step_groups(t: &mut [u8], i: usize, act: Act, n: u8) -> usize
+    requires { ⌜ (length (now t) ≡ TABLE-BYTES) × (i < RECORDS) × (present (recordAt (now t) i) ≡ true) × (keepsGroups act ≡ false) ⌝ }
+    ensures { λ r. ⌜ ((own : House) → Stepped modules levelOf (stepRecord act own n) i (now (t .entry)) (now (t .exit)) r) ⌝ }
+{
+    store(t, i, groups_after(act, n, load(t, i)));
+    0
+}
+
+// Steps record i of a table, as that of unit n, and answers 1 where its level changed. An absent unit stays as it is.
+fn step_record(t: &mut [u8], i: usize, act: Act, own: House, n: u8) -> usize
+    requires { ⌜ (length (now t) ≡ TABLE-BYTES) × (i < RECORDS) ⌝ }
+    ensures { λ r. ⌜ Stepped modules levelOf (stepRecord act own n) i (now (t .entry)) (now (t .exit)) r ⌝ }
+{
+    if t[i * RECORD_BYTES] == 0 {
+        return 0;
+    }
+    if keeps_groups(act) {
+        return step_level(t, i, act, own, n);
+    }
+    step_groups(t, i, act, n)
+}
+
+// The same, and a record that the act does not reach is passed over by a look at one byte.
+fn step_at(t: &mut [u8], i: usize, act: Act, own: House, n: u8, o: Reach) -> usize
+    requires { ⌜ (length (now t) ≡ TABLE-BYTES) × (i < RECORDS) × Spares act own o ⌝ }
+    ensures { λ r. ⌜ Stepped modules levelOf (stepRecord act own n) i (now (t .entry)) (now (t .exit)) r ⌝ }
+{
+    if (o.floor <= t[i * RECORD_BYTES + 2]) | (n == o.unit) {
+        step_record(t, i, act, own, n)
+    } else {
+        0
+    }
+}
+
+// Steps the sixteen records of a house, and answers how many levels changed.
+fn step_house(t: &mut [u8], house: usize, act: Act, own: House) -> usize
+    requires { ⌜ (length (now t) ≡ TABLE-BYTES) × (house < HOUSES) ⌝ }
+    ensures { λ r. ⌜ (now (t .exit) ≡ stepEach modules (stepRecord act own) (house * UNITS) UNITS (now (t .entry)))
+        × (r ≡ changed (now (t .entry)) (now (t .exit))) ⌝ }
+{
+    let first = house * UNITS;
+    let o = reach_of(act, own);
+    let mut count: usize = 0;
+    let mut n: usize = 0;
+    while n < UNITS {
+        count = count + step_at(t, first + n, act, own, n as u8, o);
+        n += 1;
+    }
+    count
+}
+
+// Runs an act for a house: its sixteen records, and then its own bytes. Answers how many levels changed.
+fn run_act(t: &mut [u8], house: usize, act: Act) -> usize
+    requires { ⌜ (length (now t) ≡ TABLE-BYTES) × (house < HOUSES) ⌝ }
+    ensures { λ r. ⌜ (now (t .exit) ≡ runAct act house (now (t .entry))) × (r ≡ changed (now (t .entry)) (now (t .exit))) ⌝ }
+{
+    let own = house_at(t, house);
+    let count = step_house(t, house, act, own);
+    put_house(t, house, house_after(act, own));
+    count
+}
+
+// Runs an act for a house on the bytes of a module table, and answers how many levels changed. Refused where their length is not a table's,
+// and where the house is above 15: the bytes are then left as they are.
+pub fn run(t: &mut [u8], house: u8, act: Act) -> CountAnswer
+    ensures answer { λ r. ⌜ r ≡ runAnswer act house (now (t .entry)) ⌝ }
+    ensures table { λ _. ⌜ now (t .exit) ≡ tableAfter act house (now (t .entry)) ⌝ }
+{
+    if t.len() != TABLE_BYTES {
+        return CountAnswer::Refused(Refusal::Table);
+    }
+    if 15 < house {
+        return CountAnswer::Refused(Refusal::Message);
+    }
+    CountAnswer::Done(run_act(t, house as usize, act))
+}

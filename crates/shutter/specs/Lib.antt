@@ -1,0 +1,2 @@
+pub mod Shutters
+pub mod Statements

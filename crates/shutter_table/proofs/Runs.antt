@@ -1,0 +1,30 @@
+-- A motion run on a table of the right length, for a house and a unit that there are, refuses nothing.
+--
+--     Ran, runs        what it answers and leaves
+--     run-order        RunOrder
+use mathlib.Core.Path.{_≡_, refl}
+use mathlib.Core.List.{List}
+use Prim.Native.Nat.{ℕ, _<_}
+use native.Mathlib.Omega.{arith}
+use borrow.Author.Tests.{eq-eqb, le-leb}
+use lib.ListN.{length}
+use Rattle.ground.specs.Refusals.{judged}
+use Rattle.ground.specs.declared.CountAnswer.the-variants.{Done}
+use Rattle.plan.specs.declared.Motion.{Motion}
+use Rattle.shutter_table.specs.ShutterRuns.{unitNamed, runAnswer, tableAfter, RunOrder}
+use Rattle.shutter_table.specs.ShutterTable.{SHUTTER-TABLE-BYTES, moveAll, reopened}
+
+pub record Ran (a : Motion) (h : ℕ) (t : List ℕ) : Type 0 where
+  pub answer : runAnswer a h t ≡ Done (reopened t (moveAll a h t))
+  pub table : tableAfter a h t ≡ moveAll a h t
+
+pub runs : (a : Motion) (h : ℕ) (t : List ℕ) → length t ≡ SHUTTER-TABLE-BYTES → h < 16 → unitNamed a < 16 → Ran a h t
+unfolding runAnswer tableAfter judged
+runs a h t size house unit =
+    let long = eq-eqb (length t) SHUTTER-TABLE-BYTES size in
+    let low = le-leb h 15 (omega arith) in
+    let named = le-leb (unitNamed a) 15 (omega arith) in
+    record { answer = rw (long, low, named); table = rw (long, low, named) }
+
+pub run-order : RunOrder
+run-order a h t = refl

@@ -1,0 +1,322 @@
+-- Laws of a shutter table.
+--
+--     shutters-laid                                       ShuttersLaid
+--     mark-at, opening-at                                 a shutter's marks and openings, from where they lie
+--     judged-absent, judged-fields, judged-styles         what is answered of an absent shutter, and of another
+--     eight-stored, stored                                a shutter put by its parts
+--     eight-sound, sound-eight                            a shutter is sound exactly where its marks and openings are eight each
+--     step-keeps, after-keeps                             a motion leaves a sound shutter sound
+--     below-add, zeros-group                              a test at every number, in two parts; a group of zeros keeps the rules
+--     each-shutter                                        EachShutter
+--     stepped-at, absent-at                               one shutter stepped
+--     run-of                                              the places that a motion covers, each stepped, are the table after it
+--     Whole, whole-table                                  what a valid table is
+--     shutters-stay-valid, own-shutters-only, openings-at-most-256         ShuttersStayValid, OwnShuttersOnly, OpeningsAtMost256
+--     reopened-none                                       a table that is left has no opening that differs
+use mathlib.Core.Path.{_≡_, refl, sym, ap, ap₂, subst, _∙_}
+use mathlib.Core.Bool.{Bool, true, false, not, _&&_, true≢false, and-true, and-assoc, and-eq-true-iff}
+use mathlib.Core.List.{List, [], _∷_}
+use Prim.Native.Nat.{ℕ, zero, suc, _+_, _-_, _*_, _/_, _%_, _≤_, _<_}
+use native.Mathlib.Nat.{add-assoc, add-zero, zero-add, add-suc, suc-add, le-of-suc-le-suc, not-suc-le-zero}
+use native.Mathlib.Decide.{decLt}
+use native.Mathlib.Numerals.{towards-suc}
+use native.Mathlib.Omega.{arith}
+use borrow.Author.Tests.{eqb-true, eqb-false, eq-eqb, ne-eqb, leb-true, ltb-true, le-leb, lt-ltb}
+use lib.Dec.{eqb, leb, ltb}
+use lib.ListN.{length, getD, set, List·getD-eq-default}
+use lib.Seq.{sets, ext-getD}
+use Rattle.ground.specs.Choice.{pick}
+use Rattle.ground.specs.Records.{putAt, stepEach, Stepped, allBelow, Sound}
+use Rattle.ground.proofs.Choices.{pick-both, both}
+use Rattle.ground.proofs.Causes.{bad, fine}
+use Rattle.ground.proofs.Lists.{sets-append}
+use Rattle.ground.proofs.Records.{put-as, each-length, each-other, each-at, same-records, differing-none, differing-at-most, below-at, below-all}
+use Rattle.plan.specs.declared.Motion.{Motion}
+use Rattle.plan.specs.declared.Motion.the-variants.{SelfTest, OpenProtected, Limit, OpenUnprotected, OpenHouse, OpenAll}
+use Rattle.plan.specs.declared.Motion.the-variants.{Include, Begin, Exclude, ExcludeAll, CloseHouse, CloseAll}
+use Rattle.shutter.specs.declared.Shutter.{Shutter}
+use Rattle.shutter.specs.Shutters.{LIFESTYLES, present, fieldsOk, lifestylesOk, noLifestyles, shutterOk, reaches, stepShutter}
+use Rattle.shutter.specs.Statements.{EightEach}
+use Rattle.shutter.proofs.ShutterLaws.{absent-ok, present-ok, absent-shutter-stays, stays-eight, shutter-stays-valid}
+use Rattle.shutter_table.specs.Covers.{Covers}
+use Rattle.shutter_table.specs.Groups.{GROUP, GROUP-BYTES, groupOk}
+use Rattle.shutter_table.specs.ShutterRuns.{unitNamed}
+use Rattle.shutter_table.specs.ShutterTable.{SHUTTER-BYTES, SHUTTERS, SHUTTER-TABLE-BYTES, shutterAt, shutterBytes, shutters, shuttersOk}
+use Rattle.shutter_table.specs.ShutterTable.{shutterAfter, moveAll, openingOf, reopened}
+use Rattle.shutter_table.specs.Statements.{ShuttersLaid, ShutterByShutter, EachShutter, ShuttersStayValid, everyHouse, OwnShuttersOnly}
+use Rattle.shutter_table.specs.Statements.{OpeningsAtMost256}
+
+-- ---- bytes as a list
+
+-- n bytes from place at + k on, with 0 beyond the end: at a numeral k and n it is written out, as the definitions write it
+abbrev listed : List ℕ → ℕ → ℕ → ℕ → List ℕ
+listed t at k zero = []
+listed t at k (suc n) = getD t (at + k) 0 ∷ listed t at (suc k) n
+
+listed-length : (t : List ℕ) (at k n : ℕ) → length (listed t at k n) ≡ n
+listed-length t at k zero = refl
+listed-length t at k (suc n) = ap suc (listed-length t at (suc k) n)
+
+listed-at : (t : List ℕ) (at k n j : ℕ) → j < n → getD (listed t at k n) j 0 ≡ getD t (at + (k + j)) 0
+listed-at t at k zero j h = absurd (not-suc-le-zero h)
+listed-at t at k (suc n) zero h = rw (add-zero k)
+listed-at t at k (suc n) (suc j) h = listed-at t at (suc k) n j (le-of-suc-le-suc h) ∙ rw (suc-add k j, add-suc k j)
+
+listed-same : (t u : List ℕ) (a b k n : ℕ) → ((j : ℕ) → j < n → getD t (a + (k + j)) 0 ≡ getD u (b + (k + j)) 0) → listed t a k n ≡ listed u b k n
+listed-same t u a b k zero e = refl
+listed-same t u a b k (suc n) e =
+    ap₂ (λ (x : ℕ) (xs : List ℕ). x ∷ xs) (rw add-zero at (e 0 (omega arith)))
+    (listed-same t u a b (suc k) n (λ j h. rw (suc-add k j, ← add-suc k j) (e (suc j) (omega arith))))
+
+-- a list is its own elements listed
+listed-whole : (xs : List ℕ) (n : ℕ) → length xs ≡ n → listed xs 0 0 n ≡ xs
+listed-whole xs n e =
+    ext-getD 0 (listed xs 0 0 n) xs (listed-length xs 0 0 n ∙ sym e)
+    (λ j h. listed-at xs 0 0 n j (omega (arith, listed-length xs 0 0 n)) ∙ rw (zero-add j, zero-add j))
+
+-- ---- one shutter's twenty bytes
+
+-- a shutter is made of its twenty bytes alone
+at-listed : (t : List ℕ) (i : ℕ) → shutterAt t i ≡ shutterAt (getD t (i * SHUTTER-BYTES) 0 ∷ listed t (i * SHUTTER-BYTES) 1 19) 0
+unfolding shutterAt
+at-listed t i = refl
+
+pub shutters-laid : ShuttersLaid
+unfolding shutterAt
+shutters-laid = record { sized = λ t i. refl; byte = byte; same = same }
+  where
+    byte : (t : List ℕ) (i k : ℕ) → k < SHUTTER-BYTES → getD t (i * SHUTTER-BYTES + k) 0 ≡ getD (shutterBytes (shutterAt t i)) k 0
+    byte t i zero h = rw add-zero
+    byte t i (suc k) h = sym (listed-at t (i * SHUTTER-BYTES) 1 19 k (omega arith) ∙ rw (suc-add 0 k, zero-add k))
+
+    same : (t u : List ℕ) (i j : ℕ) → ((k : ℕ) → k < SHUTTER-BYTES → getD t (i * SHUTTER-BYTES + k) 0 ≡ getD u (j * SHUTTER-BYTES + k) 0)
+        → shutterAt t i ≡ shutterAt u j
+    same t u i j e =
+        let first : getD t (i * SHUTTER-BYTES) 0 ≡ getD u (j * SHUTTER-BYTES) 0 = simp add-zero at (e 0 (omega arith)) in
+        let rest = listed-same t u (i * SHUTTER-BYTES) (j * SHUTTER-BYTES) 1 19 (λ k h. e (1 + k) (omega arith)) in
+        at-listed t i ∙ ap₂ (λ (x : ℕ) (xs : List ℕ). shutterAt (x ∷ xs) 0) first rest ∙ sym (at-listed u j)
+
+-- its marks and openings, from where they lie
+pub mark-at : (t : List ℕ) (i l : ℕ) → l < LIFESTYLES → getD (shutterAt t i .marks) l 0 ≡ getD t (i * SHUTTER-BYTES + 4 + l) 0
+unfolding shutterAt
+mark-at t i l h = listed-at t (i * SHUTTER-BYTES) 4 8 l h ∙ ap (λ (n : ℕ). getD t n 0) (sym (add-assoc (i * SHUTTER-BYTES) 4 l))
+
+pub opening-at : (t : List ℕ) (i l : ℕ) → l < LIFESTYLES → getD (shutterAt t i .openings) l 0 ≡ getD t (i * SHUTTER-BYTES + 12 + l) 0
+unfolding shutterAt
+opening-at t i l h = listed-at t (i * SHUTTER-BYTES) 12 8 l h ∙ ap (λ (n : ℕ). getD t n 0) (sym (add-assoc (i * SHUTTER-BYTES) 12 l))
+
+-- what `shutter_ok` answers of an absent shutter, and of another
+pub judged-absent : (t : List ℕ) (i : ℕ) {none : Bool} → getD t (i * SHUTTER-BYTES) 0 ≡ 0 → none ≡ noLifestyles LIFESTYLES (shutterAt t i)
+    → (eqb (getD t (i * SHUTTER-BYTES + 1) 0) 0 && eqb (getD t (i * SHUTTER-BYTES + 2) 0) 0 && eqb (getD t (i * SHUTTER-BYTES + 3) 0) 0 && none)
+    ≡ shutterOk (shutterAt t i)
+unfolding shutterAt
+judged-absent t i away e = rw e (sym (absent-ok (shutterAt t i) away))
+
+module _ (t : List ℕ) (i : ℕ) (here : getD t (i * SHUTTER-BYTES) 0 ≡ 0 → ⊥) {fields : Bool}
+    (e : fields ≡ fieldsOk (getD t (i * SHUTTER-BYTES) 0) (getD t (i * SHUTTER-BYTES + 1) 0) (getD t (i * SHUTTER-BYTES + 2) 0)
+    (getD t (i * SHUTTER-BYTES + 3) 0)) where
+  pub judged-fields : not fields ≡ true → false ≡ shutterOk (shutterAt t i)
+  unfolding shutterAt
+  judged-fields h = sym (present-ok (shutterAt t i) here ∙ ap (λ (x : Bool). x && lifestylesOk LIFESTYLES (shutterAt t i)) (bad e h))
+
+  pub judged-styles : {styles : Bool} → not fields ≡ false → styles ≡ lifestylesOk LIFESTYLES (shutterAt t i) → styles ≡ shutterOk (shutterAt t i)
+  unfolding shutterAt
+  judged-styles h d = d ∙ sym (present-ok (shutterAt t i) here ∙ ap (λ (x : Bool). x && lifestylesOk LIFESTYLES (shutterAt t i)) (fine e h))
+
+-- ---- a shutter stored
+
+-- eight bytes, one after the other
+pub eight-stored : (t : List ℕ) (at : ℕ) (xs : List ℕ) → length xs ≡ LIFESTYLES
+    → set (set (set (set (set (set (set (set t at (getD xs 0 0)) (at + 1) (getD xs 1 0)) (at + 2) (getD xs 2 0)) (at + 3) (getD xs 3 0)) (at + 4) (getD xs 4 0))
+    (at + 5) (getD xs 5 0)) (at + 6) (getD xs 6 0)) (at + 7) (getD xs 7 0)
+    ≡ sets t at xs
+eight-stored t at xs eight =
+    let all : sets t at (listed xs 0 0 LIFESTYLES) ≡ sets t at xs = ap (sets t at) (listed-whole xs LIFESTYLES eight) in
+    simp towards-suc all
+
+-- four bytes, the marks and the openings
+pub stored : (t : List ℕ) (at : ℕ) (s : Shutter) → length (s .marks) ≡ LIFESTYLES
+    → sets (sets (set (set (set (set t at (s .present)) (at + 1) (s .opening)) (at + 2) (s .limit)) (at + 3) (s .protection)) (at + 4) (s .marks))
+    (at + 12) (s .openings)
+    ≡ sets t at (shutterBytes s)
+stored t at s eight =
+    let place : at + 12 ≡ at + 4 + length (s .marks) = omega arith in
+    rw place (sym (sets-append _ (at + 4) (s .marks) (s .openings)) ∙ simp towards-suc)
+
+-- ---- sound shutters
+
+pub eight-sound : (s : Shutter) → EightEach s → Sound shutters s
+unfolding shutterAt
+eight-sound s e = subst (λ (x : Shutter). Sound shutters x) same (record { size = refl; back = back })
+  where
+    m : List ℕ
+    m = listed (s .marks) 0 0 8
+
+    o : List ℕ
+    o = listed (s .openings) 0 0 8
+
+    r : Shutter
+    r = record { present = s .present; opening = s .opening; limit = s .limit; protection = s .protection; marks = m; openings = o }
+
+    back : shutterAt (shutterBytes r) 0 ≡ r
+    back = refl
+
+    same : r ≡ s
+    same = rw (listed-whole (s .marks) 8 (e .0), listed-whole (s .openings) 8 (e .1))
+
+read-eight : (t : List ℕ) (i : ℕ) → EightEach (shutterAt t i)
+unfolding shutterAt
+read-eight t i = (refl, refl)
+
+pub sound-eight : (s : Shutter) → Sound shutters s → EightEach s
+sound-eight s sound = subst EightEach (sound .back) (read-eight (shutterBytes s) 0)
+
+pub step-keeps : (a : Motion) (k : ℕ) (s : Shutter) → Sound shutters s → Sound shutters (stepShutter a s)
+step-keeps a k s sound = eight-sound (stepShutter a s) (stays-eight a s (sound-eight s sound))
+
+pub after-keeps : (a : Motion) (h k : ℕ) (s : Shutter) → Sound shutters s → Sound shutters (shutterAfter a h k s)
+after-keeps a h k s sound = pick-both (λ x. Sound shutters x) (reaches a h k) _ _ (step-keeps a k s sound) sound
+
+-- ---- a table judged in groups
+
+-- a test at every number, in two parts
+pub below-add : (f : ℕ → Bool) (m n : ℕ) → (allBelow m f && allBelow n (λ k. f (m + k))) ≡ allBelow (m + n) f
+unfolding allBelow
+below-add f m zero = and-true (allBelow m f) ∙ ap (λ (k : ℕ). allBelow k f) (sym (add-zero m))
+below-add f m (suc n) =
+    rw (add-suc m n) (sym (and-assoc (allBelow m f) (allBelow n (λ k. f (m + k))) (f (m + n))) ∙ ap (λ (b : Bool). b && f (m + n)) (below-add f m n))
+
+-- a shutter of zeros keeps the rules
+zeros-ok : shutterOk (shutterAt [] 0) ≡ true
+unfolding shutterOk shutterAt allBelow
+zeros-ok = refl
+
+-- and so does each of a group of zeros
+pub zeros-group : (g : ℕ) (t : List ℕ) → allBelow GROUP-BYTES (λ k. eqb (getD t (g * GROUP-BYTES + k) 0) 0) ≡ true → groupOk g t ≡ true
+zeros-group g t none = below-all (λ n. shutterOk (shutterAt t (g * GROUP + n))) GROUP (λ n below. rw (zeros n below) zeros-ok)
+  where
+    zeros : (n : ℕ) → n < GROUP → shutterAt t (g * GROUP + n) ≡ shutterAt [] 0
+    zeros n below =
+        shutters-laid .same t [] (g * GROUP + n) 0
+        (λ k small.
+        let place : g * GROUP-BYTES + (n * SHUTTER-BYTES + k) ≡ (g * GROUP + n) * SHUTTER-BYTES + k = omega arith in
+        let zero-there = below-at (λ j. eqb (getD t (g * GROUP-BYTES + j) 0) 0) GROUP-BYTES none (n * SHUTTER-BYTES + k) (omega arith) in
+        ap (λ (j : ℕ). getD t j 0) (sym place) ∙ eqb-true (getD t (g * GROUP-BYTES + (n * SHUTTER-BYTES + k)) 0) 0 zero-there)
+
+-- ---- a motion on the table
+
+pub each-shutter : EachShutter
+unfolding moveAll
+each-shutter a h t size = record {
+  long = each-length shutters shutters-laid (shutterAfter a h) (after-keeps a h) 0 t SHUTTERS;
+  each = λ i below. rw zero-add at (each-at shutters shutters-laid (shutterAfter a h) (after-keeps a h) 0 t SHUTTERS i below (omega arith));
+}
+
+-- one shutter read, stepped and stored
+pub stepped-at : (a : Motion) (i : ℕ) (t u : List ℕ) (before after : Shutter) (answer : ℕ) → before ≡ shutterAt t i → after ≡ stepShutter a before
+    → u ≡ putAt shutters t i after → (answer ≡ pick (eqb (before .opening) (after .opening)) 0 1) × (answer ≤ 1)
+    → Stepped shutters openingOf (stepShutter a) i t u answer
+stepped-at a i t u before after answer read made put count = record { table = put ∙ rw (made, read); count = count .0 ∙ rw (made, read); small = count .1 }
+
+-- an absent shutter is stepped by leaving it
+pub absent-at : (a : Motion) (i : ℕ) (t : List ℕ) → length t ≡ SHUTTER-TABLE-BYTES → i < SHUTTERS → present (shutterAt t i) ≡ false
+    → Stepped shutters openingOf (stepShutter a) i t t 0
+absent-at a i t size below absent =
+    let stays : stepShutter a (shutterAt t i) ≡ shutterAt t i = absent-shutter-stays a (shutterAt t i) absent in
+    record {
+      table = sym (ap (putAt shutters t i) stays ∙ put-as shutters shutters-laid t t i (omega arith) refl (λ j off. refl));
+      count = rw (stays, eq-eqb (shutterAt t i .opening) (shutterAt t i .opening) refl);
+      small = omega arith;
+    }
+
+-- the places that a motion covers, each stepped, are the table after it
+module _ (a : Motion) (h first many : ℕ) (covers : Covers a h first many) (t : List ℕ) (size : length t ≡ SHUTTER-TABLE-BYTES) where
+  abbrev run : List ℕ
+  run = stepEach shutters (λ k. stepShutter a) first many t
+
+  run-length : length run ≡ length t
+  run-length = each-length shutters shutters-laid (λ k. stepShutter a) (step-keeps a) first t many
+
+  run-at : (i : ℕ) → i < SHUTTERS → (b : Bool) → (leb first i && ltb i (first + many)) ≡ b
+      → shutterAt run i ≡ pick b (stepShutter a (shutterAt t i)) (shutterAt t i)
+  run-at i below true e =
+      let p = and-eq-true-iff (leb first i) (ltb i (first + many)) .0 e in
+      let from : first ≤ i = leb-true first i (p .0) in
+      let to : i < first + many = ltb-true i (first + many) (p .1) in
+      let place : first + (i - first) ≡ i = omega arith in
+      subst (λ (j : ℕ). shutterAt run j ≡ stepShutter a (shutterAt t j)) place
+      (each-at shutters shutters-laid (λ k. stepShutter a) (step-keeps a) first t many (i - first) (omega arith) (omega (arith, covers .within)))
+  run-at i below false e =
+      each-other shutters shutters-laid (λ k. stepShutter a) (step-keeps a) first t many i
+      (λ k hk q. true≢false (sym (both (le-leb first i (omega arith)) (lt-ltb i (first + many) (omega arith))) ∙ e))
+
+  pub run-of : run ≡ moveAll a h t
+  run-of =
+      same-records shutters shutters-laid run (moveAll a h t) SHUTTERS (run-length ∙ size) (each-shutter a h t size .long ∙ sym run-length)
+      (λ i below. run-at i below _ (sym (covers .exactly i below)) ∙ sym (each-shutter a h t size .each i below))
+
+-- ---- what holds of every table
+
+pub openings-at-most-256 : OpeningsAtMost256
+openings-at-most-256 before after = differing-at-most shutters openingOf SHUTTERS before after
+
+pub reopened-none : (t : List ℕ) → reopened t t ≡ 0
+reopened-none t = differing-none shutters openingOf SHUTTERS t
+
+-- a motion that does not reach every house reaches none of another
+not-reached : (a : Motion) (h i : ℕ) → unitNamed a < 16 → everyHouse a ≡ false → (i / 16 ≡ h → ⊥) → reaches a h i ≡ false
+not-reached (OpenProtected u x) h i unit few other = ne-eqb i (h * 16 + u) (λ e. other (omega arith))
+not-reached (Limit u x) h i unit few other = ne-eqb i (h * 16 + u) (λ e. other (omega arith))
+not-reached (OpenUnprotected u x) h i unit few other = ne-eqb i (h * 16 + u) (λ e. other (omega arith))
+not-reached OpenHouse h i unit few other = ne-eqb (i / 16) h other
+not-reached OpenAll h i unit few other = few
+not-reached (Include u l x) h i unit few other = ne-eqb i (h * 16 + u) (λ e. other (omega arith))
+not-reached (Begin l) h i unit few other = few
+not-reached (Exclude u l) h i unit few other = ne-eqb i (h * 16 + u) (λ e. other (omega arith))
+not-reached ExcludeAll h i unit few other = few
+not-reached CloseHouse h i unit few other = ne-eqb (i / 16) h other
+not-reached CloseAll h i unit few other = few
+not-reached SelfTest h i unit few other = refl
+
+pub own-shutters-only : OwnShuttersOnly
+own-shutters-only a h t k size unit few other = go (decLt k SHUTTER-TABLE-BYTES)
+  where
+    by : ShutterByShutter a h t
+    by = each-shutter a h t size
+
+    i : ℕ
+    i = k / SHUTTER-BYTES
+
+    go : Dec (k < SHUTTER-TABLE-BYTES) → getD (moveAll a h t) k 0 ≡ getD t k 0
+    go (no past) =
+        List·getD-eq-default (moveAll a h t) 0 (omega (arith, by .long)) ∙ sym (List·getD-eq-default t 0 (omega arith))
+    go (yes low) =
+        let place : i * SHUTTER-BYTES + k % SHUTTER-BYTES ≡ k = omega arith in
+        let house : i / 16 ≡ h → ⊥ = λ e. eqb-false (k / (16 * SHUTTER-BYTES)) h other (omega arith) in
+        let stays : shutterAt (moveAll a h t) i ≡ shutterAt t i = by .each i (omega arith) ∙ rw (not-reached a h i unit few house) in
+        subst (λ (j : ℕ). getD (moveAll a h t) j 0 ≡ getD t j 0) place
+        (shutters-laid .byte (moveAll a h t) i (k % SHUTTER-BYTES) (omega arith)
+        ∙ ap (λ (s : Shutter). getD (shutterBytes s) (k % SHUTTER-BYTES) 0) stays
+        ∙ sym (shutters-laid .byte t i (k % SHUTTER-BYTES) (omega arith)))
+
+-- the length and the shutters of a valid table
+pub record Whole (t : List ℕ) : Type 0 where
+  pub long : eqb (length t) SHUTTER-TABLE-BYTES ≡ true
+  pub size : length t ≡ SHUTTER-TABLE-BYTES
+  pub each : (i : ℕ) → i < SHUTTERS → shutterOk (shutterAt t i) ≡ true
+
+pub whole-table : (t : List ℕ) → shuttersOk t ≡ true → Whole t
+unfolding shuttersOk
+whole-table t e =
+    let p = and-eq-true-iff (eqb (length t) SHUTTER-TABLE-BYTES) (allBelow SHUTTERS (λ i. shutterOk (shutterAt t i))) .0 e in
+    record { long = p .0; size = eqb-true (length t) SHUTTER-TABLE-BYTES (p .0); each = below-at (λ i. shutterOk (shutterAt t i)) SHUTTERS (p .1) }
+
+pub shutters-stay-valid : ShuttersStayValid
+unfolding shuttersOk
+shutters-stay-valid a h t ok =
+    let was = whole-table t ok in
+    let by = each-shutter a h t (was .size) in
+    rw (by .long, was .long)
+    (below-all (λ i. shutterOk (shutterAt (moveAll a h t) i)) SHUTTERS
+    (λ i below. rw (by .each i below)
+    (pick-both (λ s. shutterOk s ≡ true) (reaches a h i) _ _ (shutter-stays-valid a (shutterAt t i) (read-eight t i) (was .each i below)) (was .each i below))))
