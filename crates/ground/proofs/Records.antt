@@ -11,8 +11,10 @@
 --     differing-ext, differing-before, differing-none, differing-at-most, differing-put, differing-as      the count of records that differ in a value
 --     Turn, turn-first, turn-length, turn-next, turn-last                  a turn of a loop that steps records and counts
 --     below-at, below-all, below-not                      a test at every number, and at one
+--     below-add, below-next                               a test at every number, in two parts; one run of n numbers more
+--     zeros-in, zeros-each                                a byte of a part of zeros; records of zeros are judged as one of them
 use mathlib.Core.Path.{_≡_, refl, sym, ap, ap₂, subst, _∙_}
-use mathlib.Core.Bool.{Bool, true, false, false≢true, and-eq-true-iff}
+use mathlib.Core.Bool.{Bool, true, false, _&&_, false≢true, and-true, and-assoc, and-eq-true-iff}
 use mathlib.Core.List.{List, [], _∷_}
 use mathlib.Core.Logic.{_⊎_, inl, inr, ⊎-elim}
 use Prim.Native.Nat.{ℕ, zero, suc, _+_, _-_, _*_, _/_, _%_, _≤_, _<_}
@@ -21,12 +23,13 @@ use native.Mathlib.Nat.{mul-zero, div-lt-iff-lt-mul}
 use native.Mathlib.Numerals.{add-one}
 use native.Mathlib.Omega.{arith}
 use native.Mathlib.Decide.{decLt}
-use borrow.Author.Tests.{eq-eqb}
+use borrow.Author.Tests.{eqb-true, eq-eqb}
 use lib.Dec.{eqb}
-use lib.ListN.{length, getD, set, length-set}
-use lib.Seq.{sets, length-sets, getD-set-same, getD-set-other, set-comm, ext-getD}
+use lib.ListN.{length, getD, set, take, drop, length-set, length-drop}
+use lib.Seq.{sets, length-sets, getD-set-same, getD-set-other, set-comm, ext-getD, length-take-le, getD-take, getD-drop}
 use Rattle.ground.specs.Choice.{pick}
-use Rattle.ground.specs.Records.{Layout, putAt, stepEach, Stepped, allBelow, differing, LaidOut, Sound, RecordsLieApart, LentRecords}
+use Rattle.ground.specs.Records.{Layout, putAt, stepEach, Stepped, allBelow, zeros, eachOk, differing, valueAt, LaidOut, Sound, RecordsLieApart}
+use Rattle.ground.specs.Records.{LentRecords}
 use Rattle.ground.proofs.Choices.{pick-both}
 
 -- ---- a run of stores
@@ -77,6 +80,15 @@ below-not f n i h e = go (allBelow n f) refl
     go : (b : Bool) → allBelow n f ≡ b → allBelow n f ≡ false
     go true all = absurd (false≢true (sym e ∙ below-at f n all i h))
     go false some = some
+
+pub below-add : (f : ℕ → Bool) (m n : ℕ) → (allBelow m f && allBelow n (λ k. f (m + k))) ≡ allBelow (m + n) f
+unfolding allBelow
+below-add f m zero = and-true (allBelow m f) ∙ ap (λ (k : ℕ). allBelow k f) (sym (add-zero m))
+below-add f m (suc n) =
+    rw (add-suc m n) (sym (and-assoc (allBelow m f) (allBelow n (λ k. f (m + k))) (f (m + n))) ∙ ap (λ (b : Bool). b && f (m + n)) (below-add f m n))
+
+pub below-next : (f : ℕ → Bool) (m n : ℕ) → (allBelow (m * n) f && allBelow n (λ k. f (m * n + k))) ≡ allBelow ((m + 1) * n) f
+below-next f m n = below-add f (m * n) n ∙ ap (λ (k : ℕ). allBelow k f) (sym (ap (λ (k : ℕ). k * n) (add-one m) ∙ suc-mul m n))
 
 -- ---- two runs of stores that do not meet
 
@@ -215,6 +227,33 @@ lent-records R L laid = record {
   extensional = same-records L laid;
 }
 
+-- ---- bytes that are all zeros
+
+-- a byte of a part of zeros
+pub zeros-in : (t : List ℕ) (from to : ℕ) → to ≤ length t → zeros (take (to - from) (drop from t)) ≡ true → (j : ℕ) → from ≤ j → j < to → getD t j 0 ≡ 0
+zeros-in t from to room none j low high =
+    let k = j - from in
+    let place : from + k ≡ j = omega arith in
+    let long : length (take (to - from) (drop from t)) ≡ to - from = length-take-le (to - from) (drop from t) (omega (arith, length-drop from t)) in
+    let zero-there = below-at (λ i. eqb (getD (take (to - from) (drop from t)) i 0) 0) (length (take (to - from) (drop from t))) none k (omega arith) in
+    ap (λ (i : ℕ). getD t i 0) (sym place)
+    ∙ sym (getD-take (to - from) (drop from t) k 0 (omega arith) ∙ getD-drop from t k 0)
+    ∙ eqb-true (getD (take (to - from) (drop from t)) k 0) 0 zero-there
+
+-- n records from a place on whose bytes are all zeros: each is the record of zeros, and keeps a rule that this one keeps
+pub zeros-each : {R : Type 0} (L : Layout R) → LaidOut L → (ok : R → Bool) → ok (L .at [] 0) ≡ true → (t : List ℕ) (first n from to : ℕ)
+    → from ≡ first * L .size → to ≡ (first + n) * L .size → to ≤ length t → zeros (take (to - from) (drop from t)) ≡ true
+    → eachOk L ok first n t ≡ true
+zeros-each L laid ok good t first n from to begins ends room none = below-all (λ k. ok (L .at t (first + k))) n (λ k below. ap ok (same k below) ∙ good)
+  where
+    same : (k : ℕ) → k < n → L .at t (first + k) ≡ L .at [] 0
+    same k below =
+        laid .same t [] (first + k) 0
+        (λ j small.
+        let low : first * L .size ≤ (first + k) * L .size = mul-le-mul-right (L .size) (omega arith) in
+        let high = ends-before (first + k) (first + n) (L .size) (omega arith) in
+        zeros-in t from to room none ((first + k) * L .size + j) (omega arith) (omega arith))
+
 -- ---- records stepped
 
 module _ {R : Type 0} (L : Layout R) (laid : LaidOut L) (step : ℕ → R → R) (keeps : (k : ℕ) (r : R) → Sound L r → Sound L (step k r)) where
@@ -264,23 +303,24 @@ module _ {R : Type 0} (L : Layout R) (laid : LaidOut L) (step : ℕ → R → R)
 -- ---- the count of records that differ
 
 module _ {R : Type 0} (L : Layout R) (value : R → ℕ) where
-  pub differing-ext : (n : ℕ) (b t u : List ℕ) → ((i : ℕ) → i < n → value (L .at t i) ≡ value (L .at u i)) → differing L value n b t ≡ differing L value n b u
+  pub differing-ext : (n : ℕ) (b t u : List ℕ) → ((i : ℕ) → i < n → value (L .at t i) ≡ value (L .at u i))
+      → differing (valueAt L value) n b t ≡ differing (valueAt L value) n b u
   unfolding differing
   differing-ext zero b t u e = refl
   differing-ext (suc n) b t u e = rw (differing-ext n b t u (λ i h. e i (omega arith)), e n (omega arith))
 
   pub differing-before : (n : ℕ) (b c t : List ℕ) → ((i : ℕ) → i < n → value (L .at b i) ≡ value (L .at c i))
-      → differing L value n b t ≡ differing L value n c t
+      → differing (valueAt L value) n b t ≡ differing (valueAt L value) n c t
   unfolding differing
   differing-before zero b c t e = refl
   differing-before (suc n) b c t e = rw (differing-before n b c t (λ i h. e i (omega arith)), e n (omega arith))
 
-  pub differing-none : (n : ℕ) (t : List ℕ) → differing L value n t t ≡ 0
+  pub differing-none : (n : ℕ) (t : List ℕ) → differing (valueAt L value) n t t ≡ 0
   unfolding differing
   differing-none zero t = refl
   differing-none (suc n) t = rw (differing-none n t, eq-eqb (value (L .at t n)) (value (L .at t n)) refl)
 
-  pub differing-at-most : (n : ℕ) (b t : List ℕ) → differing L value n b t ≤ n
+  pub differing-at-most : (n : ℕ) (b t : List ℕ) → differing (valueAt L value) n b t ≤ n
   unfolding differing
   differing-at-most zero b t = omega arith
   differing-at-most (suc n) b t =
@@ -291,7 +331,7 @@ module _ {R : Type 0} (L : Layout R) (value : R → ℕ) where
   module _ (laid : LaidOut L) where
     -- the last of n + 1 records put
     differing-last : (n : ℕ) (b t : List ℕ) (r : R) → Sound L r → n * L .size + L .size ≤ length t → L .at b n ≡ L .at t n
-        → differing L value (suc n) b (putAt L t n r) ≡ differing L value (suc n) b t + pick (eqb (value (L .at t n)) (value r)) 0 1
+        → differing (valueAt L value) (suc n) b (putAt L t n r) ≡ differing (valueAt L value) (suc n) b t + pick (eqb (value (L .at t n)) (value r)) 0 1
     unfolding differing
     differing-last n b t r sound hl e =
         rw (
@@ -303,27 +343,27 @@ module _ {R : Type 0} (L : Layout R) (value : R → ℕ) where
         (omega arith)
 
     pub differing-put : (n i : ℕ) (b t : List ℕ) (r : R) → Sound L r → i < n → i * L .size + L .size ≤ length t → L .at b i ≡ L .at t i
-        → differing L value n b (putAt L t i r) ≡ differing L value n b t + pick (eqb (value (L .at t i)) (value r)) 0 1
+        → differing (valueAt L value) n b (putAt L t i r) ≡ differing (valueAt L value) n b t + pick (eqb (value (L .at t i)) (value r)) 0 1
     unfolding differing
     differing-put zero i b t r sound hi hl e = absurd (not-suc-le-zero hi)
     differing-put (suc n) i b t r sound hi hl e = go (decLt i n) (λ h. differing-put n i b t r sound h hl e)
       where
         go : Dec (i < n)
-            → (i < n → differing L value n b (putAt L t i r) ≡ differing L value n b t + pick (eqb (value (L .at t i)) (value r)) 0 1)
-            → differing L value (suc n) b (putAt L t i r) ≡ differing L value (suc n) b t + pick (eqb (value (L .at t i)) (value r)) 0 1
+            → (i < n → differing (valueAt L value) n b (putAt L t i r) ≡ differing (valueAt L value) n b t + pick (eqb (value (L .at t i)) (value r)) 0 1)
+            → differing (valueAt L value) (suc n) b (putAt L t i r) ≡ differing (valueAt L value) (suc n) b t + pick (eqb (value (L .at t i)) (value r)) 0 1
         go (yes h) ih = rw (ih h, put-other L laid t i n r sound (λ q. omega arith)) (omega arith)
         go (no h) ih =
             let last : n ≡ i = omega arith in
             subst (λ (k : ℕ). k * L .size + L .size ≤ length t → L .at b k ≡ L .at t k
-            → differing L value (suc n) b (putAt L t k r) ≡ differing L value (suc n) b t + pick (eqb (value (L .at t k)) (value r)) 0 1)
+            → differing (valueAt L value) (suc n) b (putAt L t k r) ≡ differing (valueAt L value) (suc n) b t + pick (eqb (value (L .at t k)) (value r)) 0 1)
             last (differing-last n b t r sound) hl e
 
 -- a value that is another's is counted as that one
-pub differing-as : {R S : Type 0} (L : Layout R) (value : R → ℕ) (M : Layout S) (worth : S → ℕ)
-    → ((t : List ℕ) (i : ℕ) → value (L .at t i) ≡ worth (M .at t i)) → (n : ℕ) (b t : List ℕ) → differing L value n b t ≡ differing M worth n b t
+pub differing-as : (value worth : List ℕ → ℕ → ℕ) → ((t : List ℕ) (i : ℕ) → value t i ≡ worth t i) → (n : ℕ) (b t : List ℕ)
+    → differing value n b t ≡ differing worth n b t
 unfolding differing
-differing-as L value M worth same zero b t = refl
-differing-as L value M worth same (suc n) b t = rw (differing-as L value M worth same n b t, same b n, same t n)
+differing-as value worth same zero b t = refl
+differing-as value worth same (suc n) b t = rw (differing-as value worth same n b t, same b n, same t n)
 
 -- ---- a loop that steps records and counts
 
@@ -331,7 +371,7 @@ differing-as L value M worth same (suc n) b t = rw (differing-as L value M worth
 pub record Turn {R : Type 0} (L : Layout R) (value : R → ℕ) (step : ℕ → R → R) (first most all : ℕ) (b t : List ℕ) (count n : ℕ) : Type 0 where
   pub room : n ≤ most
   pub table : t ≡ stepEach L step first n b
-  pub counted : count ≡ differing L value all b t
+  pub counted : count ≡ differing (valueAt L value) all b t
   pub few : count ≤ n
 
 module _ {R : Type 0} (L : Layout R) (laid : LaidOut L) (value : R → ℕ) (step : ℕ → R → R) (keeps : (k : ℕ) (r : R) → Sound L r → Sound L (step k r))
@@ -344,7 +384,7 @@ module _ {R : Type 0} (L : Layout R) (laid : LaidOut L) (value : R → ℕ) (ste
     pub turn-length : length t ≡ length b
     turn-length = ap length (old .table) ∙ each-length L laid step keeps first b n
 
-    pub turn-last : most ≤ n → (t ≡ stepEach L step first most b) × (count ≡ differing L value all b t)
+    pub turn-last : most ≤ n → (t ≡ stepEach L step first most b) × (count ≡ differing (valueAt L value) all b t)
     turn-last done =
         let end : n ≡ most = omega (arith, old .room) in
         (old .table ∙ ap (λ (k : ℕ). stepEach L step first k b) end, old .counted)
@@ -357,8 +397,9 @@ module _ {R : Type 0} (L : Layout R) (laid : LaidOut L) (value : R → ℕ) (ste
         let fits : i * L .size + L .size ≤ length t = omega (arith, turn-length) in
         let ahead : L .at b i ≡ L .at t i =
         sym (ap (λ (l : List ℕ). L .at l i) (old .table) ∙ each-other L laid step keeps first b n i (λ k hk e. omega arith)) in
-        let total : differing L value all b u ≡ differing L value all b t + pick (eqb (value (L .at t i)) (value (step n (L .at t i)))) 0 1 =
-        ap (λ (l : List ℕ). differing L value all b l) (new .table)
+        let total : differing (valueAt L value) all b u
+        ≡ differing (valueAt L value) all b t + pick (eqb (value (L .at t i)) (value (step n (L .at t i)))) 0 1 =
+        ap (λ (l : List ℕ). differing (valueAt L value) all b l) (new .table)
         ∙ differing-put L value laid all i b t (step n (L .at t i)) (keeps n (L .at t i) (read-sound L laid t i)) low fits ahead in
         record {
           room = omega arith;

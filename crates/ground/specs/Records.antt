@@ -37,10 +37,22 @@ unfoldable pub allBelow : ℕ → (ℕ → Bool) → Bool
 allBelow zero f = true
 allBelow (suc n) f = allBelow n f && f n
 
--- how many of the first n records have another value after than before
-unfoldable pub differing : {R : Type 0} → Layout R → (R → ℕ) → ℕ → List ℕ → List ℕ → ℕ
-differing L value zero before after = 0
-differing L value (suc n) before after = differing L value n before after + pick (eqb (value (L .at before n)) (value (L .at after n))) 0 1
+-- every byte of a list is 0
+abbrev pub zeros : List ℕ → Bool
+zeros t = allBelow (length t) (λ k. eqb (getD t k 0) 0)
+
+-- a test of each of n records from a place on
+abbrev pub eachOk : {R : Type 0} → Layout R → (R → Bool) → ℕ → ℕ → List ℕ → Bool
+eachOk L ok first n t = allBelow n (λ k. ok (L .at t (first + k)))
+
+-- how many of the first n records have another value after than before; a value is read from the bytes and the record's place
+unfoldable pub differing : (List ℕ → ℕ → ℕ) → ℕ → List ℕ → List ℕ → ℕ
+differing value zero before after = 0
+differing value (suc n) before after = differing value n before after + pick (eqb (value before n) (value after n)) 0 1
+
+-- such a value, of the record that lies there
+abbrev pub valueAt : {R : Type 0} → Layout R → (R → ℕ) → List ℕ → ℕ → ℕ
+valueAt L value t i = value (L .at t i)
 
 -- ---- what holds of them
 

@@ -1,16 +1,18 @@
-// What every routine shares: why it refuses, the number that is given back for it, an answer that counts, and the count of one record.
+// What every routine shares: why it refuses, the number that is given back for it, an answer that counts, the count of one record, and whether bytes are
+// all zeros.
 ghost use mathlib.Core.Path.{_≡_};
 ghost use Prim.Native.Nat.{_≤_};
 ghost use Rattle.ground.specs.Choice.{pick};
+ghost use Rattle.ground.specs.Records.{zeros};
 ghost use Rattle.ground.specs.Refusals.{refusalNumber};
 
 // Why a routine refuses, in the order of the numbers.
 pub enum Refusal {
-    // A table's length.
+    // The module table's length.
     Table,
     // A house or unit above 15, or numbers that make no message.
     Message,
-    // A table that breaks a rule.
+    // A module table that breaks a rule.
     Record,
     // A message that tables do not carry.
     NotCarried,
@@ -30,7 +32,7 @@ pub enum Refusal {
     Code,
     // Sent 1, heard 0.
     Fault,
-    // A shutter table's length.
+    // The shutter table's length.
     ShutterTable,
     // A shutter table that breaks a rule.
     ShutterRecord,
@@ -49,6 +51,32 @@ pub fn count_of(same: bool) -> usize
     ensures { λ r. ⌜ (r ≡ pick same 0 1) × (r ≤ 1) ⌝ }
 {
     if same { 0 } else { 1 }
+}
+
+// Whether the bytes are all zeros. Every one is tested: with no early way out sixteen are tested at once.
+fn each_zero(t: &[u8]) -> bool
+    ensures { λ r. ⌜ r ≡ zeros (now (t .entry)) ⌝ }
+{
+    let mut none = true;
+    let mut k = 0;
+    while k < t.len() {
+        none = none & (t[k] == 0);
+        k += 1;
+    }
+    none
+}
+
+// The same, and where the first byte is not zero no other is read: so it is where the first of several records is present.
+pub fn zeros(t: &[u8]) -> bool
+    ensures { λ r. ⌜ r ≡ zeros (now (t .entry)) ⌝ }
+{
+    if t.len() == 0 {
+        return true;
+    }
+    if t[0] != 0 {
+        return false;
+    }
+    each_zero(t)
 }
 
 // The number that is given back for a refusal.

@@ -1,6 +1,6 @@
 -- Laws of an act run on lent bytes, for those who call it.
 --
---     run-lowest                    RunLowest
+--     act-lowest                    ActLowest
 --     run-done                      the answer and the bytes left, where the length is a table's and the house is one of the sixteen
 --     changed-at-most               no more levels change than there are records
 --     step-changed, run-changed     at most one a record stepped, and so at most sixteen an act
@@ -22,17 +22,17 @@ use Rattle.plan.specs.declared.Act.{Act}
 use Rattle.record.specs.declared.House.{House}
 use Rattle.record.specs.Layout.{UNITS, HOUSES, RECORDS, TABLE-BYTES, recordAt, modules, houseAt}
 use Rattle.record.specs.ModuleTable.{stepRecord, houseAfter, runAct, levelOf, changed}
-use Rattle.module_table.specs.ModuleRuns.{runCauses, runAnswer, tableAfter, RunLowest}
+use Rattle.module_table.specs.ModuleRuns.{actCauses, actAnswer, modulesAfter, ActLowest}
 use Rattle.module_table.proofs.TableLaws.{modules-laid, record-sound, step-keeps, record-put-house, changed-ext, changed-none}
 use Rattle.module_table.proofs.HouseLaws.{stepped}
 
-pub run-lowest : RunLowest
-run-lowest h t = lowest-given (runCauses h t) refl
+pub act-lowest : ActLowest
+act-lowest h t = lowest-given (actCauses h t) refl
 
 -- the tests of a caller that has a table and a house are passed
 pub run-done : (a : Act) (h : ℕ) (t : List ℕ) → length t ≡ TABLE-BYTES → h < HOUSES
-    → (runAnswer a h t ≡ Done (changed t (runAct a h t))) × (tableAfter a h t ≡ runAct a h t)
-unfolding runAnswer tableAfter judged
+    → (actAnswer a h t ≡ Done (changed t (runAct a h t))) × (modulesAfter a h t ≡ runAct a h t)
+unfolding actAnswer modulesAfter judged
 run-done a h t size house =
     let long = eq-eqb (length t) TABLE-BYTES size in
     let low = le-leb h 15 (omega arith) in

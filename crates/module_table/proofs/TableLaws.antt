@@ -4,11 +4,13 @@
 --     record-ext, byte-of-record                        a record is made of its eight bytes, and they are its bytes
 --     modules-laid, record-sound                        so what holds of any table of records holds of a module table's
 --     step-keeps                                        and every act keeps to it
+--     zeros-ok                                          a record of zeros keeps the rules
 --     length-put-house, byte-put-house, record-put-house, house-put-own, house-put-other, house-put       records and houses' own bytes do not meet
 --     changed-ext, changed-none                         ground's laws, of the count of changed levels
 --     ran                                               an act run on a table
 use mathlib.Core.Path.{_≡_, refl, sym, ap, _∙_}
-use mathlib.Core.List.{List}
+use mathlib.Core.Bool.{true}
+use mathlib.Core.List.{List, []}
 use mathlib.Core.Logic.{inr}
 use Prim.Native.Nat.{ℕ, zero, suc, _+_, _*_, _<_}
 use native.Mathlib.Nat.{add-zero}
@@ -19,10 +21,10 @@ use Rattle.ground.specs.Records.{Sound, stepEach}
 use Rattle.ground.proofs.Records.{byte-put-apart, differing-ext, differing-none}
 use Rattle.plan.specs.declared.Act.{Act}
 use Rattle.record.specs.Layout.{RECORD-BYTES, UNITS, RECORDS, HEARD-AT, recordAt, recordBytes, modules, put, houseAt, putHouse}
-use Rattle.record.specs.ModuleTable.{stepRecord, houseAfter, runAct, levelOf, changed}
+use Rattle.record.specs.ModuleTable.{recordOk, stepRecord, houseAfter, runAct, levelOf, changed}
 use Rattle.record.specs.declared.Record.{Record}
 use Rattle.record.specs.declared.House.{House}
-use Rattle.module_table.specs.ModuleRuns.{ModulesLaid}
+use Rattle.module_table.specs.ModuleRuns.{ModulesLaid, ModulesSound}
 
 -- ---- how the records lie
 
@@ -57,12 +59,16 @@ byte-of-record t i (suc (suc (suc (suc (suc (suc (suc (suc k)))))))) h = absurd 
 pub modules-laid : ModulesLaid
 modules-laid = record { sized = λ t i. refl; byte = byte-of-record; same = record-ext }
 
-pub record-sound : (r : Record) → Sound modules r
+pub record-sound : ModulesSound
 unfolding recordAt
 record-sound r = record { size = refl; back = refl }
 
 pub step-keeps : (a : Act) (own : House) (k : ℕ) (r : Record) → Sound modules r → Sound modules (stepRecord a own k r)
 step-keeps a own k r sound = record-sound (stepRecord a own k r)
+
+pub zeros-ok : recordOk (recordAt [] 0) ≡ true
+unfolding recordOk recordAt
+zeros-ok = refl
 
 -- ---- a house's own bytes
 

@@ -5,31 +5,36 @@ use mathlib.Core.Path.{_≡_}
 use mathlib.Core.List.{List, [], _∷_}
 use lib.Dec.{eqb, leb}
 use lib.ListN.{length}
-use Rattle.ground.specs.Records.{LaidOut}
+use Rattle.ground.specs.Records.{LaidOut, Sound}
 use Rattle.ground.specs.Refusals.{Cause, unless, judged, numberGiven, lowest}
 use Rattle.ground.specs.declared.CountAnswer.{CountAnswer}
 use Rattle.ground.specs.declared.CountAnswer.the-variants.{Done, Refused}
 use Rattle.ground.specs.declared.Refusal.the-variants as refusal
 use Rattle.plan.specs.declared.Act.{Act}
+use Rattle.record.specs.declared.Record.{Record}
 use Rattle.record.specs.Layout.{TABLE-BYTES, modules}
 use Rattle.record.specs.ModuleTable.{runAct, changed}
 
 -- "TABLE: table length not 2,064", "MESSAGE: house .. above 15"
-abbrev pub runCauses : ℕ → List ℕ → List Cause
-runCauses h t = unless (eqb (length t) TABLE-BYTES) refusal.Table ∷ unless (leb h 15) refusal.Message ∷ []
+abbrev pub actCauses : ℕ → List ℕ → List Cause
+actCauses h t = unless (eqb (length t) TABLE-BYTES) refusal.Table ∷ unless (leb h 15) refusal.Message ∷ []
 
 -- the answer: the records whose level differs
-unfoldable pub runAnswer : Act → ℕ → List ℕ → CountAnswer
-runAnswer a h t = judged (runCauses h t) (Done (changed t (runAct a h t))) Refused
+unfoldable pub actAnswer : Act → ℕ → List ℕ → CountAnswer
+actAnswer a h t = judged (actCauses h t) (Done (changed t (runAct a h t))) Refused
 
 -- the table that is left: a refusal "changes nothing lent"
-unfoldable pub tableAfter : Act → ℕ → List ℕ → List ℕ
-tableAfter a h t = judged (runCauses h t) (runAct a h t) (λ why. t)
+unfoldable pub modulesAfter : Act → ℕ → List ℕ → List ℕ
+modulesAfter a h t = judged (actCauses h t) (runAct a h t) (λ why. t)
 
 -- modules lie in their table by the laws of lent records: proofs/TableLaws.antt
 abbrev pub ModulesLaid : Type 0
 ModulesLaid = LaidOut modules
 
+-- and so does every record that is put there
+abbrev pub ModulesSound : Type 0
+ModulesSound = (r : Record) → Sound modules r
+
 -- "Within one routine the lowest number that applies is given.": proofs/Runs.antt
-abbrev pub RunLowest : Type 0
-RunLowest = (h : ℕ) (t : List ℕ) → lowest (runCauses h t) ≡ numberGiven (runCauses h t)
+abbrev pub ActLowest : Type 0
+ActLowest = (h : ℕ) (t : List ℕ) → lowest (actCauses h t) ≡ numberGiven (actCauses h t)

@@ -2,13 +2,13 @@
 use ground::CountAnswer;
 use ground::Refusal;
 use ground::count_of;
+use ground::zeros;
 use message::Function;
 use plan::Act;
 use record::HEARD_AT;
 use record::HOUSES;
 use record::House;
 use record::RECORD_BYTES;
-use record::RECORDS;
 use record::Record;
 use record::TABLE_BYTES;
 use record::UNITS;
@@ -23,14 +23,17 @@ ghost use mathlib.Core.Bool.{true, false};
 ghost use Prim.Native.Nat.{ℕ, _*_, _<_};
 ghost use lib.ListN.{length};
 ghost use Rattle.ground.specs.Choice.{pick};
-ghost use Rattle.ground.specs.Records.{stepEach, Stepped};
+ghost use Rattle.ground.specs.Records.{stepEach, Stepped, eachOk};
 ghost use Rattle.record.specs.declared.Record.{Record};
 ghost use Rattle.record.specs.declared.House.{House};
 ghost use Rattle.record.specs.Layout.{RECORDS, HOUSES, UNITS, TABLE-BYTES, present, recordAt, modules, put, houseAt, putHouse};
 ghost use Rattle.record.specs.ModuleTable.{recordOk, houseOk, recordsOk, housesOk, tableOk, obeyed, stepRecord, levelOf, runAct, changed};
 ghost use Rattle.record.specs.Parts.{keepsGroups};
-ghost use Rattle.module_table.specs.ModuleRuns.{runAnswer, tableAfter};
+ghost use Rattle.module_table.specs.ModuleRuns.{actAnswer, modulesAfter};
 ghost use Rattle.module_table.specs.Reaches.{mayChange, Spares};
+
+// The bytes of a house's records.
+const UNITS_BYTES: usize = UNITS * RECORD_BYTES;
 
 // Record i of a table.
 fn load(t: &[u8], i: usize) -> Record
@@ -101,16 +104,43 @@ fn record_ok(t: &[u8], i: usize) -> bool
     )
 }
 
-// Whether each record keeps the rules. Every one is tested: with no early way out the tests run side by side.
+// Whether each record of a house keeps the rules. Every one is tested: with no early way out the tests run side by side.
+fn each_ok(t: &[u8], house: usize) -> bool
+    requires { ⌜ (length (now t) ≡ TABLE-BYTES) × (house < HOUSES) ⌝ }
+    ensures { λ r. ⌜ r ≡ eachOk modules recordOk (house * UNITS) UNITS (now (t .entry)) ⌝ }
+{
+    let first = house * UNITS;
+    let mut ok = true;
+    let mut n = 0;
+    while n < UNITS {
+        ok = ok & record_ok(t, first + n);
+        n += 1;
+    }
+    ok
+}
+
+// The same, and a house with no module is passed over.
+fn units_ok(t: &[u8], house: usize) -> bool
+    requires { ⌜ (length (now t) ≡ TABLE-BYTES) × (house < HOUSES) ⌝ }
+    ensures { λ r. ⌜ r ≡ eachOk modules recordOk (house * UNITS) UNITS (now (t .entry)) ⌝ }
+{
+    let from = house * UNITS_BYTES;
+    if zeros(&t[from..from + UNITS_BYTES]) {
+        return true;
+    }
+    each_ok(t, house)
+}
+
+// Whether each record of every house does.
 fn records_ok(t: &[u8]) -> bool
     requires { ⌜ length (now t) ≡ TABLE-BYTES ⌝ }
     ensures { λ r. ⌜ r ≡ recordsOk RECORDS (now (t .entry)) ⌝ }
 {
     let mut ok = true;
-    let mut i = 0;
-    while i < RECORDS {
-        ok = ok & record_ok(t, i);
-        i += 1;
+    let mut house = 0;
+    while house < HOUSES {
+        ok = ok & units_ok(t, house);
+        house += 1;
     }
     ok
 }
@@ -298,8 +328,8 @@ fn run_act(t: &mut [u8], house: usize, act: Act) -> usize
 // Runs an act for a house on the bytes of a module table, and answers how many levels changed. Refused where their length is not a table's,
 // and where the house is above 15: the bytes are then left as they are.
 pub fn run(t: &mut [u8], house: u8, act: Act) -> CountAnswer
-    ensures answer { λ r. ⌜ r ≡ runAnswer act house (now (t .entry)) ⌝ }
-    ensures table { λ _. ⌜ now (t .exit) ≡ tableAfter act house (now (t .entry)) ⌝ }
+    ensures answer { λ r. ⌜ r ≡ actAnswer act house (now (t .entry)) ⌝ }
+    ensures table { λ _. ⌜ now (t .exit) ≡ modulesAfter act house (now (t .entry)) ⌝ }
 {
     if t.len() != TABLE_BYTES {
         return CountAnswer::Refused(Refusal::Table);

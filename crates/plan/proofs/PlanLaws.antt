@@ -6,7 +6,7 @@
 --     fits-rest        so past the test of the message the test of the opening alone gives the answer
 --     answer-runs      an answer that runs: the message is valid and carried, its opening fits, and its plan is the answer
 --     answer-refused   an answer that does not, for a valid message: it is not carried, or it is and its opening does not fit
---     carried-runs, only-type-zero, which-openings, plan-lowest      CarriedRuns, OnlyTypeZero, WhichOpenings and PlanLowest
+--     carried-runs, only-type-zero, which-carried, which-openings, plan-lowest      CarriedRuns, OnlyTypeZero, WhichCarried, WhichOpenings, PlanLowest
 use Prim.Native.Nat.{ℕ, _/_, _%_, _^_, _≤_, _<_}
 use mathlib.Core.Path.{_≡_, refl, sym, ap, _∙_}
 use mathlib.Core.Bool.{Bool, true, false, not, _&&_, _||_, false≢true}
@@ -19,10 +19,12 @@ use borrow.Author.Tests.{ltb-true, ltb-false, eqb-true, le-leb, lt-leb, ne-eqb}
 use lib.Dec.{eqb, leb}
 use lib.Pow.{pow-mono}
 use Rattle.ground.specs.Choice.{pick}
+use Rattle.ground.specs.Records.{allBelow}
 use Rattle.ground.specs.Refusals.{unless, judged, numberGiven}
 use Rattle.ground.specs.declared.Refusal.{Refusal}
 use Rattle.ground.specs.declared.Refusal.the-variants as refusal
 use Rattle.ground.proofs.Choices.{pick-both}
+use Rattle.ground.proofs.Records.{below-at}
 use Rattle.ground.proofs.Causes.{none-stops, judged-holds, lowest-given}
 use Rattle.message.specs.Messages.{messageOk}
 use Rattle.message.specs.declared.Message.{Message}
@@ -32,8 +34,8 @@ use Rattle.plan.specs.declared.Motion.{Motion}
 use Rattle.plan.specs.declared.Plan.{Plan}
 use Rattle.plan.specs.declared.Plan.the-variants.{Run, Move, Refused}
 use Rattle.plan.specs.Motions.{openingIn, motionPlan}
-use Rattle.plan.specs.Plans.{bit, notCarried, absolute, extendedPlan, planOf, runs, carried, fits, planCauses, planAnswer}
-use Rattle.plan.specs.Statements.{CarriedRuns, OnlyTypeZero, carriesOpening, WhichOpenings, PlanLowest}
+use Rattle.plan.specs.Plans.{bit, notCarried, absolute, extendedPlan, typeZero, forShutters, planOf, runs, carried, fits, planCauses, planAnswer}
+use Rattle.plan.specs.Statements.{CarriedRuns, OnlyTypeZero, WhichCarried, carriesOpening, WhichOpenings, PlanLowest}
 
 pub no-bit : (k x : ℕ) → x < 256 → 8 ≤ k → bit k x ≡ false
 no-bit k x h l =
@@ -149,26 +151,47 @@ carried-runs m = (go (planOf m), back)
     back (inl (a, e)) = rw e
     back (inr (a, e)) = rw e
 
+-- two tests that agree
+abbrev alike : Bool → Bool → Bool
+alike true b = b
+alike false b = not b
+
+alike-same : (a b : Bool) → alike a b ≡ true → a ≡ b
+alike-same true b e = sym e
+alike-same false true e = absurd (false≢true e)
+alike-same false false e = refl
+
 -- no act is a motion
 apart : {a : Act} {b : Motion} → Run a ≡ Move b → ⊥
 apart e = let z : _≡_ {A = ℕ} 0 1 = cc in omega arith
 
-no-act : (h u d c : ℕ) (a : Act) → c < 16 → planOf (Extended h u d c) ≡ Run a → ⊥
-no-act h u d c a low e =
-    let type : c / 16 ≡ 0 = div-eq-of-lt low in
+no-act : (m : Message) (a : Act) → typeZero m ≡ true → planOf m ≡ Run a → ⊥
+no-act (Calls h u) a type e = false≢true type
+no-act (Command h f) a type e = false≢true type
+no-act (Extended h u d c) a type e =
     motion-each (λ p. p ≡ Run a → ⊥) (λ e. false≢true (ap runs e)) (λ b e. apart (sym e)) u d c (rw type at e)
 
-only-extended : (m : Message) (a : Motion) → planOf m ≡ Move a → (h : ℕ) × (u : ℕ) × (d : ℕ) × (c : ℕ) × (m ≡ Extended h u d c) × (c < 16)
+only-extended : (m : Message) (a : Motion) → planOf m ≡ Move a → typeZero m ≡ true
 only-extended (Calls h u) a e = absurd (apart e)
 only-extended (Command h f) a e = absurd (apart e)
-only-extended (Extended h u d c) a e = (h, u, d, c, refl, go (eqb (c / 16) 0) refl)
+only-extended (Extended h u d c) a e = go (forShutters c) refl
   where
-    go : (b : Bool) → eqb (c / 16) 0 ≡ b → c < 16
-    go true t = omega (arith, eqb-true (c / 16) 0 t)
+    go : (b : Bool) → forShutters c ≡ b → forShutters c ≡ true
+    go true t = t
     go false t = absurd (extended-each (λ p. p ≡ Move a → ⊥) (λ e. false≢true (ap runs e)) (λ b e. apart e) u d c (rw t at e))
 
 pub only-type-zero : OnlyTypeZero
 only-type-zero = record { type-zero = no-act; others = only-extended }
+
+-- which of the sixteen commands of type 0 run, whatever their unit and data: one computed test
+runs-tested : (u d : ℕ) → allBelow 16 (λ c. alike (runs (motionPlan u d c)) (not (eqb c 0x00 || eqb c 0x06 || eqb c 0x0D))) ≡ true
+unfolding motionPlan allBelow
+runs-tested u d = refl
+
+pub which-carried : WhichCarried
+which-carried h u d c type =
+    let low : c < 16 = omega (arith, eqb-true (c / 16) 0 type) in
+    rw type (alike-same _ _ (below-at (λ k. alike (runs (motionPlan u d k)) (not (eqb k 0x00 || eqb k 0x06 || eqb k 0x0D))) 16 (runs-tested u d) c low))
 
 -- "26..31", and what is left
 above-25 : (x : ℕ) → leb x 25 ≡ not (leb 26 x)

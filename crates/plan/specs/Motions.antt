@@ -1,8 +1,8 @@
 -- What a message of type 0 asks of the shutters (02, A1; XTC798, 'TYPE = 0 Shutters and Sunshades'), in the order of XTC798's table. What a motion
 -- makes of a shutter is in shutter's Shutters.
 use Prim.Native.Nat.{ℕ, _/_, _%_}
-use mathlib.Core.Bool.{_||_}
-use lib.Dec.{eqb}
+use mathlib.Core.Bool.{Bool, _||_}
+use lib.Dec.{eqb, leb}
 use Rattle.ground.specs.Choice.{pick}
 use Rattle.ground.specs.declared.Refusal.the-variants as refusal
 use Rattle.plan.specs.declared.Motion.{Motion}
@@ -18,7 +18,11 @@ openingIn d = d % 32
 abbrev pub lifestyleIn : ℕ → ℕ
 lifestyleIn d = d / 32
 
--- by unit, data and command; "0E and 0F are heard only"; 00, 06 and 0D are NOT CARRIED, as is every command of another type here
+-- "D = 0 is closed, D = 25 is fully open"
+abbrev pub OPEN : ℕ
+OPEN = 25
+
+-- by unit, data and command of type 0: "0E and 0F are heard only"; 00, 06 and 0D are NOT CARRIED
 unfoldable pub motionPlan : ℕ → ℕ → ℕ → Plan
 motionPlan u d c =
     pick (eqb c 0x01) (Move (OpenProtected u (openingIn d)))
@@ -49,3 +53,7 @@ broughtBy ExcludeAll = 0
 broughtBy CloseHouse = 0
 broughtBy CloseAll = 0
 broughtBy SelfTest = 0
+
+-- whether there is such an opening
+abbrev pub motionFits : Motion → Bool
+motionFits a = leb (broughtBy a) OPEN

@@ -15,7 +15,7 @@ use Rattle.plan.specs.declared.Act.the-variants.{Nothing, Address, Obey,
 use Rattle.plan.specs.declared.Act.the-variants.{Leave, LeaveHouse, Execute, GroupOff, GroupDim, GroupBright}
 use Rattle.plan.specs.declared.Plan.{Plan}
 use Rattle.plan.specs.declared.Plan.the-variants.{Run, Move, Refused}
-use Rattle.plan.specs.Motions.{motionPlan, broughtBy}
+use Rattle.plan.specs.Motions.{motionPlan, motionFits}
 
 -- the house that a message is for
 abbrev pub houseOf : Message → ℕ
@@ -80,11 +80,20 @@ extendedPlan u d c =
 
 -- ---- Every message
 
--- what a message asks, whatever its house and unit; an extended message's type is its command's top four bits, and type 0 is for shutters
+-- XTC798's "TYPE" is the command's top four bits; type 0 is "Shutters and Sunshades"
+abbrev pub forShutters : ℕ → Bool
+forShutters c = eqb (c / 16) 0
+
+abbrev pub typeZero : Message → Bool
+typeZero (Calls h u) = false
+typeZero (Command h f) = false
+typeZero (Extended h u d c) = forShutters c
+
+-- what a message asks, whatever its house and unit
 abbrev pub planOf : Message → Plan
 planOf (Calls h u) = Run (Address u)
 planOf (Command h f) = Run (Obey f)
-planOf (Extended h u d c) = pick (eqb (c / 16) 0) (motionPlan u d c) (extendedPlan u d c)
+planOf (Extended h u d c) = pick (forShutters c) (motionPlan u d c) (extendedPlan u d c)
 
 -- whether it is carried: its plan runs
 abbrev pub runs : Plan → Bool
@@ -98,7 +107,7 @@ carried m = runs (planOf m)
 -- "18 OPENING last, when 01, 02, 03 or 07 carries 26..31"
 abbrev pub fits : Plan → Bool
 fits (Run a) = true
-fits (Move a) = leb (broughtBy a) 25
+fits (Move a) = motionFits a
 fits (Refused why) = true
 
 -- "MESSAGE: house or unit above 15", "NOT CARRIED: as said", "OPENING last"

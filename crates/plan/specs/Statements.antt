@@ -1,5 +1,5 @@
 -- What holds of plans: proofs/PlanLaws.antt.
-use Prim.Native.Nat.{ℕ, _<_}
+use Prim.Native.Nat.{ℕ}
 use lib.Dec.{eqb, leb}
 use mathlib.Core.Path.{_≡_}
 use mathlib.Core.Bool.{Bool, true, not, _&&_, _||_}
@@ -11,7 +11,7 @@ use Rattle.plan.specs.declared.Act.{Act}
 use Rattle.plan.specs.declared.Motion.{Motion}
 use Rattle.plan.specs.declared.Plan.the-variants.{Run, Move}
 use Rattle.plan.specs.Motions.{openingIn}
-use Rattle.plan.specs.Plans.{planOf, carried, fits, planCauses}
+use Rattle.plan.specs.Plans.{typeZero, forShutters, planOf, carried, fits, planCauses}
 
 -- a message is carried exactly when it asks for an act or a motion
 abbrev pub CarriedRuns : Type 0
@@ -19,11 +19,14 @@ CarriedRuns = (m : Message) → (carried m ≡ true) ↔ (((a : Act) × (planOf 
 
 -- motions are what type 0 asks for, "and it never changes the module table"; no other message asks for one
 pub record OnlyTypeZero : Type 0 where
-  pub type-zero : (h u d c : ℕ) (a : Act) → c < 16 → planOf (Extended h u d c) ≡ Run a → ⊥
-  pub others : (m : Message) (a : Motion) → planOf m ≡ Move a
-      → (h : ℕ) × (u : ℕ) × (d : ℕ) × (c : ℕ) × (m ≡ Extended h u d c) × (c < 16)
+  pub type-zero : (m : Message) (a : Act) → typeZero m ≡ true → planOf m ≡ Run a → ⊥
+  pub others : (m : Message) (a : Motion) → planOf m ≡ Move a → typeZero m ≡ true
 
--- "18 .. when 01, 02, 03 or 07 carries 26..31", by the data alone; such a message is carried
+-- of type 0, "01 to 05, 07 to 0C" act and "0E and 0F are heard only"; 00, 06 and 0D are not carried
+abbrev pub WhichCarried : Type 0
+WhichCarried = (h u d c : ℕ) → forShutters c ≡ true → carried (Extended h u d c) ≡ not (eqb c 0x00 || eqb c 0x06 || eqb c 0x0D)
+
+-- "18 .. when 01, 02, 03 or 07 carries 26..31", by the data alone
 abbrev pub carriesOpening : ℕ → Bool
 carriesOpening c = eqb c 0x01 || eqb c 0x02 || eqb c 0x03 || eqb c 0x07
 

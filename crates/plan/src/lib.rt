@@ -7,10 +7,14 @@ ghost use mathlib.Core.List.{[], _∷_};
 ghost use Rattle.ground.specs.Refusals.{unless, judged, refuses};
 ghost use Rattle.ground.specs.declared.Refusal.the-variants.{Opening};
 ghost use Rattle.plan.specs.declared.Plan.the-variants.{Refused};
+ghost use Rattle.plan.specs.Motions.{motionFits};
 ghost use Rattle.plan.specs.Plans.{bit, houseOf, planOf, carried, fits, planCauses, planAnswer, planReport};
 
 mod extended;
 mod motions;
+
+// The opening of a shutter that is fully open.
+pub const OPEN: u8 = 25;
 
 // What is asked of the sixteen modules of a house. A unit is a number 0 to 15, a group 0 to 3 and a level 0 to 63; bit g of
 // `groups` is set for group g.
@@ -45,7 +49,8 @@ pub enum Act {
     GroupBright { group: u8 },
 }
 
-// What is asked of the shutters. A unit is a number 0 to 15, an opening or limit 0 (closed) to 25 (open), a lifestyle 0 to 7.
+// What is asked of the shutters. A unit is a number 0 to 15, an opening or limit 0 (closed) to 25 (open), a lifestyle 0 to 7; data can bring an opening up to
+// 31, which `motion_fits` tells.
 pub enum Motion {
     // Heard, and no shutter changes.
     SelfTest,
@@ -143,6 +148,13 @@ fn asked(m: Message) -> Plan
     }
 }
 
+// Whether the opening or limit that a motion brings, if it brings one, is one that there is.
+pub fn motion_fits(motion: Motion) -> bool
+    ensures { λ b. ⌜ b ≡ motionFits motion ⌝ }
+{
+    motions::brought_by(motion) <= OPEN
+}
+
 // A plan, refused where it brings an opening above 25.
 fn fitting(p: Plan) -> Plan
     ensures { λ r. ⌜ r ≡ judged (unless (fits p) Opening ∷ []) p Refused ⌝ }
@@ -150,7 +162,7 @@ fn fitting(p: Plan) -> Plan
     match p {
         Plan::Run(act) => Plan::Run(act),
         Plan::Move(motion) => {
-            if motions::brought_by(motion) <= 25 {
+            if motion_fits(motion) {
                 Plan::Move(motion)
             } else {
                 Plan::Refused(Refusal::Opening)

@@ -7,7 +7,7 @@ use mathlib.Core.List.{List}
 use lib.Dec.{eqb, leb}
 use lib.ListN.{length}
 use Rattle.ground.specs.Choice.{pick}
-use Rattle.ground.specs.Records.{stepEach, allBelow, differing}
+use Rattle.ground.specs.Records.{stepEach, allBelow, differing, valueAt}
 use Rattle.message.specs.declared.Function.{Function}
 use Rattle.message.specs.declared.Function.the-variants.{AllUnitsOff, AllLightsOn, On, Off, Dim, Bright, AllLightsOff}
 use Rattle.message.specs.declared.Function.the-variants.{HailRequest, HailAcknowledge, StatusOn, StatusOff, StatusRequest}
@@ -162,4 +162,4 @@ abbrev pub levelOf : Record → ℕ
 levelOf r = r .level
 
 abbrev pub changed : List ℕ → List ℕ → ℕ
-changed before after = differing modules levelOf RECORDS before after
+changed before after = differing (valueAt modules levelOf) RECORDS before after

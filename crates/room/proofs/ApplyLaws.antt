@@ -12,10 +12,10 @@
 use mathlib.Core.Path.{_≡_, refl, sym, ap, ap₂, subst, _∙_}
 use mathlib.Core.Bool.{Bool, true, false, _||_, false≢true, and-eq-true-iff}
 use mathlib.Core.List.{List, _++_}
-use Prim.Native.Nat.{ℕ, _/_, _≤_, _<_}
+use Prim.Native.Nat.{ℕ, _≤_, _<_}
 use native.Mathlib.Omega.{arith}
-use borrow.Author.Tests.{eqb-true, eq-eqb}
-use lib.Dec.{eqb, leb}
+use borrow.Author.Tests.{eqb-true}
+use lib.Dec.{eqb}
 use lib.ListN.{length}
 use Rattle.ground.specs.Refusals.{refusalNumber, Cause, judged, numberGiven}
 use Rattle.ground.specs.declared.CountAnswer.{CountAnswer}
@@ -28,8 +28,8 @@ use Rattle.message.specs.Messages.{messageOk}
 use Rattle.message.specs.declared.Message.{Message}
 use Rattle.message.specs.declared.Message.the-variants.{Address, Function as Command, Extended}
 use Rattle.message.proofs.CodeLaws.{extended-below}
-use Rattle.plan.specs.Plans.{houseOf, planOf, runs, carried, fits, planCauses, planAnswer}
-use Rattle.plan.specs.Motions.{motionPlan, broughtBy}
+use Rattle.plan.specs.Plans.{houseOf, typeZero, planOf, runs, carried, fits, planCauses, planAnswer}
+use Rattle.plan.specs.Motions.{motionPlan, motionFits}
 use Rattle.plan.specs.declared.Act.{Act}
 use Rattle.plan.specs.declared.Motion.{Motion}
 use Rattle.plan.specs.declared.Plan.{Plan}
@@ -37,15 +37,14 @@ use Rattle.plan.specs.declared.Plan.the-variants.{Run, Move, Refused as Asks-no
 use Rattle.plan.proofs.PlanLaws.{answer-runs, only-type-zero}
 use Rattle.record.specs.Layout.{HOUSES, RECORDS, TABLE-BYTES, modules}
 use Rattle.record.specs.ModuleTable.{runAct, levelOf, changed}
-use Rattle.module_table.specs.ModuleRuns as run
+use Rattle.module_table.specs.ModuleRuns.{actAnswer, modulesAfter}
 use Rattle.module_table.proofs.HouseLaws.{whole, run-stays-valid}
 use Rattle.module_table.proofs.Runs.{run-done}
-use Rattle.shutter_table.specs.ShutterRuns as move
-use Rattle.shutter_table.specs.ShutterRuns.{unitNamed}
-use Rattle.shutter_table.specs.ShutterTable.{SHUTTERS, SHUTTER-TABLE-BYTES, shutters, shuttersOk, moveAll, openingOf, reopened}
+use Rattle.shutter_table.specs.ShutterRuns.{unitNamed, motionAnswer, shuttersAfter}
+use Rattle.shutter_table.specs.ShutterTable.{SHUTTERS, SHUTTER-TABLE-BYTES, shutters, shuttersOk, moveAll, openingOf, openingsChanged}
 use Rattle.shutter_table.proofs.TableLaws.{shutters-stay-valid}
 use Rattle.shutter_table.proofs.Runs as moves
-use Rattle.room.specs.Rooms.{Room, roomOf, modulesLong, shuttersLong, modulesValid, shuttersValid, roomOk, changes, applyCauses}
+use Rattle.room.specs.Rooms.{Room, roomOf, modulesLong, shuttersLong, modulesValid, shuttersValid, roomOk, changes, noChanges, applyCauses}
 use Rattle.room.specs.Rooms.{carriedOut, roomAfter, applyAnswer, applyReport, roomReport, changesOf}
 use Rattle.room.specs.Routes.{roomCauses}
 use Rattle.room.specs.Lent.{roomVerdict, levelsAnswer, openingsAnswer}
@@ -88,13 +87,14 @@ named-below u d c low =
     none = omega arith
 
 pub unit-below : (m : Message) (a : Motion) → messageOk m ≡ true → planOf m ≡ Move a → unitNamed a < 16
-unit-below m a ok e = go (only-type-zero .others m a e)
+unit-below m a ok e = go m ok e (only-type-zero .others m a e)
   where
-    go : (h : ℕ) × (u : ℕ) × (d : ℕ) × (c : ℕ) × (m ≡ Extended h u d c) × (c < 16) → unitNamed a < 16
-    go (h, u, d, c, is, low) =
-        let type : eqb (c / 16) 0 ≡ true = eq-eqb (c / 16) 0 (omega arith) in
-        let plan : motionPlan u d c ≡ Move a = rw type at (ap planOf (sym is) ∙ e) in
-        subst Below plan (named-below u d c (extended-below h u d c (ap messageOk (sym is) ∙ ok) .1))
+    go : (m : Message) → messageOk m ≡ true → planOf m ≡ Move a → typeZero m ≡ true → unitNamed a < 16
+    go (Address h u) ok e type = absurd (false≢true type)
+    go (Command h f) ok e type = absurd (false≢true type)
+    go (Extended h u d c) ok e type =
+        let plan : motionPlan u d c ≡ Move a = rw type at e in
+        subst Below plan (named-below u d c (extended-below h u d c ok .1))
 
 -- ---- a valid room
 
@@ -196,7 +196,7 @@ module _ (m : Message) (t s : List ℕ) {p : Plan} (asked : p ≡ planAnswer m) 
       (sym (does .0 ∙ ap (answerBy m (roomOf t s)) none), sym (does .1 ∙ ap (λ (q : Plan). carriedOut (houseOf m) q (roomOf t s)) none))
 
   module _ (h : ℕ) (ours : h ≡ houseOf m) where
-    pub run-by : (a : Act) (n : CountAnswer) (u : List ℕ) (r : RoomAnswer) → p ≡ Run a → n ≡ run.runAnswer a h t → u ≡ run.tableAfter a h t
+    pub run-by : (a : Act) (n : CountAnswer) (u : List ℕ) (r : RoomAnswer) → p ≡ Run a → n ≡ actAnswer a h t → u ≡ modulesAfter a h t
         → r ≡ levelsAnswer n → Owed m (roomOf t s) r (roomOf u s)
     run-by a n u r is told left counts =
         let does = by-plan m (roomOf t s) ok in
@@ -204,7 +204,7 @@ module _ (m : Message) (t s : List ℕ) {p : Plan} (asked : p ≡ planAnswer m) 
         let valid = answer-runs m (Run a) plan refl in
         let low : h < HOUSES = subst (λ (x : ℕ). x < HOUSES) (sym ours) (house-below m (valid .0)) in
         let done = run-done a h t (modules-size (roomOf t s) ok) low in
-        let same : reopened s s ≡ 0 = differing-none shutters openingOf SHUTTERS s in (
+        let same : openingsChanged s s ≡ 0 = differing-none shutters openingOf SHUTTERS s in (
           counts
               ∙ ap levelsAnswer (told ∙ done .0)
               ∙ ap₂ (λ (x y : ℕ). Done (record { levels = x; openings = y })) (ap (λ (k : ℕ). changed t (runAct a k t)) ours) (sym same)
@@ -213,18 +213,19 @@ module _ (m : Message) (t s : List ℕ) {p : Plan} (asked : p ≡ planAnswer m) 
               ∙ sym (does .1 ∙ ap (λ (q : Plan). carriedOut (houseOf m) q (roomOf t s)) plan),
         )
 
-    pub move-by : (a : Motion) (n : CountAnswer) (u : List ℕ) (r : RoomAnswer) → p ≡ Move a → n ≡ move.runAnswer a h s → u ≡ move.tableAfter a h s
+    pub move-by : (a : Motion) (n : CountAnswer) (u : List ℕ) (r : RoomAnswer) → p ≡ Move a → n ≡ motionAnswer a h s → u ≡ shuttersAfter a h s
         → r ≡ openingsAnswer n → Owed m (roomOf t s) r (roomOf t u)
     move-by a n u r is told left counts =
         let does = by-plan m (roomOf t s) ok in
         let plan = sym asked ∙ is in
         let valid = answer-runs m (Move a) plan refl in
         let low : h < 16 = subst (λ (x : ℕ). x < 16) (sym ours) (house-below m (valid .0)) in
-        let done = moves.runs a h s (shutters-size (roomOf t s) ok) low (unit-below m a (valid .0) (valid .3)) in
+        let done = moves.runs a h s (shutters-size (roomOf t s) ok) low (unit-below m a (valid .0) (valid .3))
+        (sym (ap fits (valid .3)) ∙ valid .2) in
         let same : changed t t ≡ 0 = differing-none modules levelOf RECORDS t in (
           counts
               ∙ ap openingsAnswer (told ∙ done .answer)
-              ∙ ap₂ (λ (x y : ℕ). Done (record { levels = x; openings = y })) (sym same) (ap (λ (k : ℕ). reopened s (moveAll a k s)) ours)
+              ∙ ap₂ (λ (x y : ℕ). Done (record { levels = x; openings = y })) (sym same) (ap (λ (k : ℕ). openingsChanged s (moveAll a k s)) ours)
               ∙ sym (does .0 ∙ ap (answerBy m (roomOf t s)) plan),
           ap (λ (l : List ℕ). roomOf t l) (left ∙ done .table ∙ ap (λ (k : ℕ). moveAll a k s) ours)
               ∙ sym (does .1 ∙ ap (λ (q : Plan). carriedOut (houseOf m) q (roomOf t s)) plan),
@@ -238,6 +239,7 @@ pub record Ran (m : Message) (room : Room) (p : Plan) : Type 0 where
   pub ok : roomOk room ≡ true
   pub answer : applyAnswer m room ≡ Done (changes room (roomAfter m room))
   pub plan : planOf m ≡ p
+  pub fit : fits p ≡ true
   pub left : roomAfter m room ≡ carriedOut (houseOf m) p room
 
 pub data Outcome (m : Message) (room : Room) : Type 0 where
@@ -261,17 +263,18 @@ outcome m room =
     go true ea true eb true ec true ed true ee (Asks-none why) ep f ef =
         stays refusal.NotCarried (simp (ea, eb, ec, ed, ee, ep)) (simp (ea, eb, ec, ed, ee, ep))
     go true ea true eb true ec true ed true ee (Run a) ep f ef =
-        did a (record { message = ec; ok = both ed ee; answer = simp (ea, eb, ec, ed, ee, ep); plan = ep; left = simp (ea, eb, ec, ed, ee, ep) })
+        did a (record { message = ec; ok = both ed ee; answer = simp (ea, eb, ec, ed, ee, ep); plan = ep; fit = refl; left = simp (ea, eb, ec, ed, ee, ep) })
     go true ea true eb true ec true ed true ee (Move a) ep false ef =
-        let wide : leb (broughtBy a) 25 ≡ false = rw ep at ef in
+        let wide : motionFits a ≡ false = rw ep at ef in
         stays refusal.Opening (simp (ea, eb, ec, ed, ee, ep, wide)) (simp (ea, eb, ec, ed, ee, ep, wide))
     go true ea true eb true ec true ed true ee (Move a) ep true ef =
-        let fine : leb (broughtBy a) 25 ≡ true = rw ep at ef in
+        let fine : motionFits a ≡ true = rw ep at ef in
         moved a (record {
           message = ec;
           ok = both ed ee;
           answer = simp (ea, eb, ec, ed, ee, ep, fine);
           plan = ep;
+          fit = fine;
           left = simp (ea, eb, ec, ed, ee, ep, fine);
         })
 
@@ -295,10 +298,10 @@ valid-stays m room ok = go (outcome m room)
     go (stays why e same) = rw same ok
     go (did a r) =
         rw (r .left) (both (run-stays-valid a (houseOf m) (room .modules) (house-below m (r .message)) (v .modules-valid)) (v .shutters-valid))
-    go (moved a r) = rw (r .left) (both (v .modules-valid) (shutters-stay-valid a (houseOf m) (room .shutters) (v .shutters-valid)))
+    go (moved a r) = rw (r .left) (both (v .modules-valid) (shutters-stay-valid a (houseOf m) (room .shutters) (r .fit) (v .shutters-valid)))
 
 -- nothing has changed between a room and itself
-pub unchanged : (room : Room) → changes room room ≡ record { levels = 0; openings = 0 }
+pub unchanged : (room : Room) → changes room room ≡ noChanges
 unchanged room =
     ap₂ (λ (x y : ℕ). record { levels = x; openings = y }) (differing-none modules levelOf RECORDS (room .modules))
     (differing-none shutters openingOf SHUTTERS (room .shutters))

@@ -18,7 +18,7 @@ use Rattle.record.specs.ModuleTable.{acted, stepRecord, levelOf}
 use Rattle.record.specs.declared.Record.{Record}
 use Rattle.record.specs.declared.House.{House}
 use Rattle.module_table.proofs.HouseLaws.{run-record}
-use Rattle.shutter_table.specs.ShutterTable.{reopened}
+use Rattle.shutter_table.specs.ShutterTable.{openingsChanged}
 use Rattle.room.specs.Rooms.{Room, changes, roomAfter}
 use Rattle.room.proofs.ApplyLaws.{Outcome, stays, did, moved, outcome, modules-size}
 
@@ -62,4 +62,4 @@ pub address-counts : (h u : ℕ) (room after : Room) → changes (roomAfter (Cal
 address-counts h u room after =
     ap₂ (λ (x y : ℕ). record { levels = x; openings = y })
     (differing-before modules levelOf RECORDS (roomAfter (Calls h u) room .modules) (room .modules) (after .modules) (address-levels h u room))
-    (ap (λ s. reopened s (after .shutters)) (address-shutters h u room))
+    (ap (λ s. openingsChanged s (after .shutters)) (address-shutters h u room))

@@ -1,5 +1,5 @@
 pub mod ApplyLaws
 pub mod Levels
 pub mod RadioLaws
-pub mod SecondsKept
+pub mod SecondBytes
 pub mod MainsLaws

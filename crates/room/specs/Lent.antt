@@ -3,10 +3,9 @@
 use Prim.Native.Nat.{ℕ, _+_, _-_, _*_, _≤_}
 use mathlib.Core.Path.{_≡_}
 use mathlib.Core.Bool.{Bool, true, false}
-use mathlib.Core.List.{List, [], _∷_, _++_, flatMap}
+use mathlib.Core.List.{List, _++_, flatMap}
 use lib.ListN.{length, getD, drop, replicate}
 use lib.Seq.{sets}
-use Rattle.ground.specs.Records.{Layout}
 use Rattle.ground.specs.Refusals.{judged}
 use Rattle.ground.specs.declared.CountAnswer.{CountAnswer}
 use Rattle.ground.specs.declared.CountAnswer.the-variants.{Done, Refused}
@@ -24,12 +23,9 @@ use Rattle.room.specs.Rooms.{Room, roomOk}
 use Rattle.room.specs.Routes.{roomCauses}
 use Rattle.room.specs.Mains.{answerGiven, answerBytes, roomHeard, answersHeard}
 
--- the second byte of each record of so many bytes, a module's level, a shutter's opening: read and counted only, never put
-abbrev pub seconds : ℕ → Layout ℕ
-seconds size = record { size = size; at = λ t i. getD t (i * size + 1) 0; bytes = λ x. x ∷ [] }
-
-abbrev pub itself : ℕ → ℕ
-itself x = x
+-- the second byte of record i, of so many bytes each: a module's level, a shutter's opening
+abbrev pub secondByte : ℕ → List ℕ → ℕ → ℕ
+secondByte size t i = getD t (i * size + 1) 0
 
 -- whether a route can use both tables, or why not
 unfoldable pub roomVerdict : Room → RoomJudged

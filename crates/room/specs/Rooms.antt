@@ -13,7 +13,7 @@ use Rattle.plan.specs.declared.Plan.{Plan}
 use Rattle.plan.specs.declared.Plan.the-variants.{Run, Move, Refused as NoPlan}
 use Rattle.record.specs.Layout.{TABLE-BYTES}
 use Rattle.record.specs.ModuleTable.{tableOk, runAct, changed}
-use Rattle.shutter_table.specs.ShutterTable.{SHUTTER-TABLE-BYTES, shuttersOk, moveAll, reopened}
+use Rattle.shutter_table.specs.ShutterTable.{SHUTTER-TABLE-BYTES, shuttersOk, moveAll, openingsChanged}
 use Rattle.ground.specs.declared.CountAnswer.{CountAnswer}
 use Rattle.ground.specs.declared.CountAnswer.the-variants.{Done as Counted, Refused as NotCounted}
 use Rattle.room.specs.declared.Changes.{Changes}
@@ -49,7 +49,10 @@ roomOk room = modulesValid room && shuttersValid room
 -- "The result counts the records whose level differs before and after.", and "as a second count, the shutters whose opening differs"
 abbrev pub changes : Room → Room → Changes
 changes before after =
-    record { levels = changed (before .modules) (after .modules); openings = reopened (before .shutters) (after .shutters) }
+    record { levels = changed (before .modules) (after .modules); openings = openingsChanged (before .shutters) (after .shutters) }
+
+abbrev pub noChanges : Changes
+noChanges = record { levels = 0; openings = 0 }
 
 -- 1, 2, 3, 4: "NOT CARRIED: as said, by the table only"; "16 .. after 1, 17 .. after 3, 18 OPENING last"
 abbrev pub applyCauses : Message → Room → List Cause
@@ -97,7 +100,7 @@ roomReport (Refused why) = refuses why
 -- what has changed by an answer: nothing where it is a refusal
 abbrev pub changesOf : RoomAnswer → Changes
 changesOf (Done c) = c
-changesOf (Refused why) = record { levels = 0; openings = 0 }
+changesOf (Refused why) = noChanges
 
 -- the counts of an answer as one count: the levels in its lowest 16 bits, the openings in the next 16, and 0 above them
 abbrev pub tallied : RoomAnswer → CountAnswer

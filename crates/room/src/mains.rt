@@ -27,7 +27,7 @@ ghost use lib.Seq.{sets};
 ghost use Rattle.ground.specs.Records.{differing};
 ghost use Rattle.record.specs.Layout.{RECORDS};
 ghost use Rattle.room.specs.Rooms.{roomOf, roomOk, changes, roomReport};
-ghost use Rattle.room.specs.Lent.{seconds, itself, isGiven, placeOf, stretchAnswers, Prepared, remains, remainsBy};
+ghost use Rattle.room.specs.Lent.{secondByte, isGiven, placeOf, stretchAnswers, Prepared, remains, remainsBy};
 ghost use Rattle.room.specs.Mains.{roomGiven, answerGiven, answerBytes, lentTo, mainsAnswer, mainsReport, mainsAfter, lentAfter};
 
 // The receiver after a slice, and what has changed in the room.
@@ -37,9 +37,9 @@ struct Heeded {
 }
 
 // The second byte of each of 256 records of so many bytes: of a module its level, of a shutter its opening.
-fn seconds_in(t: &[u8], size: usize) -> [u8; 256]
+fn second_bytes(t: &[u8], size: usize) -> [u8; 256]
     requires { ⌜ (RECORDS * size ≤ length (now t)) × (2 ≤ size) × (size ≤ 20) ⌝ }
-    ensures { λ r. ⌜ ((k : ℕ) → k < RECORDS → getD r k 0 ≡ seconds size .at (now (t .entry)) k) ⌝ }
+    ensures { λ r. ⌜ ((k : ℕ) → k < RECORDS → getD r k 0 ≡ secondByte size (now (t .entry)) k) ⌝ }
 {
     let mut kept = [0; 256];
     let mut i: usize = 0;
@@ -53,8 +53,8 @@ fn seconds_in(t: &[u8], size: usize) -> [u8; 256]
 // How many of 256 records have another second byte than that of a table before.
 fn changed_from(kept: [u8; 256], t: &[u8], size: usize) -> usize
     requires { ⌜ (RECORDS * size ≤ length (now t)) × (2 ≤ size) × (size ≤ 20) ⌝ }
-    ensures { λ r. ⌜ ((before : List ℕ) → ((k : ℕ) → k < RECORDS → getD kept k 0 ≡ seconds size .at before k)
-        → r ≡ differing (seconds size) itself RECORDS before (now (t .entry))) ⌝ }
+    ensures { λ r. ⌜ ((before : List ℕ) → ((k : ℕ) → k < RECORDS → getD kept k 0 ≡ secondByte size before k)
+        → r ≡ differing (secondByte size) RECORDS before (now (t .entry))) ⌝ }
 {
     let mut count: usize = 0;
     let mut i: usize = 0;
@@ -204,8 +204,8 @@ fn heed_all(
             },
         };
     }
-    let levels = seconds_in(table, RECORD_BYTES);
-    let openings = seconds_in(shutters, SHUTTER_BYTES);
+    let levels = second_bytes(table, RECORD_BYTES);
+    let openings = second_bytes(shutters, SHUTTER_BYTES);
     answer_stretch(table, shutters, answers, 0, to, given);
     let last = heed(next, halves, to, table, shutters, events, answers);
     Heeded {

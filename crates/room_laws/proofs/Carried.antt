@@ -31,15 +31,16 @@ use Rattle.radio.specs.Codes.{commandOf}
 use Rattle.radio.specs.Answers.{readCauses, messagesOf}
 use Rattle.radio.specs.declared.RadioCommand.{RadioCommand}
 use Rattle.radio.specs.declared.RadioCommand.the-variants.{On, Off, Bright, Dim}
-use Rattle.room.specs.Rooms.{Room, roomOk, changes, roomAfter, applyAnswer, changesOf, tallied}
+use Rattle.room.specs.Rooms.{Room, noChanges, roomOk, changes, roomAfter, applyAnswer, changesOf, tallied}
 use Rattle.room.specs.Routes.{roomAfterAll, roomCauses, radioAfter, radioAnswer}
 use Rattle.room.specs.Mains.{roomGiven, answerGiven, answerBytes, roomHeard, answersHeard, Lending, heard, lentCauses, mainsAfter}
 use Rattle.room.specs.declared.Changes.{Changes}
 use Rattle.room.specs.declared.RoomAnswer.the-variants.{Done, Refused}
 use Rattle.room.proofs.ApplyLaws.{Outcome, stays, did, moved, outcome, Valid, valid-parts, room-fine, fine-room, valid-stays, unchanged, counts-are}
 use Rattle.room.proofs.Levels.{address-counts}
-use Rattle.room_laws.specs.Demand2.{Route, radio, mains, meantBy, carries, radioLeaves, leaves, noChanges, added, radioCounts, numberIn}
+use Rattle.room_laws.specs.Demand2.{Route, radio, mains, meantBy, carries, radioLeaves, leaves, added, radioCounts, numberIn}
 use Rattle.room_laws.specs.Demand2.{changesIn, countsIn, counts, Demand2, NoMoreThanMessages}
+use Rattle.room_laws.specs.Statements.{AllStayValid}
 use Rattle.room_laws.proofs.Theorems.{count-at-most-256}
 
 -- ---- messages applied one after the other
@@ -75,7 +76,7 @@ as-append (m ∷ ms) ns room left n p =
     let first = changesOf (applyAnswer m room) in
     (q .0, added-assoc first (countAll ms (roomAfter m room)) n ∙ ap (added first) (q .1))
 
-pub all-stay : (ms : List Message) (room : Room) → roomOk room ≡ true → roomOk (roomAfterAll ms room) ≡ true
+pub all-stay : AllStayValid
 unfolding roomAfterAll
 all-stay [] room ok = ok
 all-stay (m ∷ ms) room ok = all-stay ms (roomAfter m room) (valid-stays m room ok)

@@ -27,7 +27,7 @@ use Rattle.room.proofs.ApplyLaws.{valid-parts, valid-stays}
 use Rattle.room_laws.specs.Statements.{ByPlan}
 use Rattle.room_laws.specs.Demand2.{leaves, after}
 use Rattle.room_laws.specs.Press.{byRadio, darkens, Press, Recall}
-use Rattle.room_laws.proofs.Theorems.{record-by-record}
+use Rattle.room_laws.proofs.Theorems.{record-by-record, only-type-zero-moves}
 use Rattle.room_laws.proofs.Carried.{no-more}
 use Rattle.room_laws.proofs.Bursts.{codes-carry, bursts-as-codes}
 
@@ -138,6 +138,11 @@ unfolding flatMap roomAfterAll lit called
 by-radio-left h u room house unit =
     no-more (byRadio h u) room ∙ ap (λ (ms : List Message). roomAfterAll ms room) (codes-carry (RadioOn h u ∷ []) (both house unit, tt))
 
+-- and both its messages leave the shutters
+shutters-kept : (h u : ℕ) (room : Room) → lit h u room .shutters ≡ room .shutters
+unfolding lit called
+shutters-kept h u room = only-type-zero-moves (Command h On) (roomAfter (Calls h u) room) .others refl ∙ only-type-zero-moves (Calls h u) room .others refl
+
 pub press : Press
 unfolding flatMap
 press h u z w room hh hu hz hw =
@@ -148,6 +153,7 @@ press h u z w room hh hu hz hw =
     let left = by-radio-left h u room house unit in
     record {
       same-room = same;
+      no-shutter = rw left (shutters-kept h u room);
       same-lamps = λ i. ap (λ (x : Room). darkens h x i) same;
       pressed = λ ok here. rw left (darkened h u room house unit ok (omega arith) here);
       let-go = λ ok heard n below other. rw left (kept h u room house unit ok heard n below other);

@@ -17,7 +17,7 @@ use Rattle.record.specs.declared.House.{House}
 use Rattle.record.specs.Layout.{present, lamp, member, preset, withAddressed}
 use Rattle.record.specs.ModuleTable.{lit, dimmed, brightened, addressed, obeyed, levelFor, joined, left, acted, stepRecord}
 use Rattle.module_table.proofs.StillLaws.{unlevelled, unchosen}
-use Rattle.room_laws.specs.Statements.{hears, reaches}
+use Rattle.room_laws.specs.Statements.{hears, actReaches}
 
 -- ---- a record that an act does not reach
 
@@ -35,7 +35,7 @@ unheard StatusOn r e = refl
 unheard StatusOff r e = refl
 unheard StatusRequest r e = refl
 
-unreached : (a : Act) (own : House) (n : ℕ) (r : Record) → reaches a own n r ≡ false → acted a own n r ≡ r
+unreached : (a : Act) (own : House) (n : ℕ) (r : Record) → actReaches a own n r ≡ false → acted a own n r ≡ r
 unreached Nothing own n r e = refl
 unreached (Address u) own n r e = go (eqb n u) (eqb (own .heard) 1) e
   where
@@ -56,10 +56,10 @@ unreached (GroupOff g) own n r e = unlevelled (member g r) 0 r e
 unreached (GroupDim g) own n r e = unlevelled (member g r && lamp r) (dimmed (r .level)) r e
 unreached (GroupBright g) own n r e = unlevelled (member g r && lamp r) (brightened (r .level)) r e
 
-pub step-unreached : (a : Act) (own : House) (n : ℕ) (r : Record) → (present r && reaches a own n r) ≡ false → stepRecord a own n r ≡ r
+pub step-unreached : (a : Act) (own : House) (n : ℕ) (r : Record) → (present r && actReaches a own n r) ≡ false → stepRecord a own n r ≡ r
 unfolding stepRecord
 step-unreached a own n r = go (present r)
   where
-    go : (b : Bool) → (b && reaches a own n r) ≡ false → pick b (acted a own n r) r ≡ r
+    go : (b : Bool) → (b && actReaches a own n r) ≡ false → pick b (acted a own n r) r ≡ r
     go true e = unreached a own n r e
     go false e = refl

@@ -4,7 +4,7 @@ use mathlib.Core.Bool.{Bool, true, false, not, _&&_, _||_, true≢false}
 use Prim.Native.Nat.{ℕ, _+_, _*_, _/_, _%_, _≤_, _<_}
 use native.Mathlib.Omega.{arith}
 use native.Mathlib.Decide.{ℕ-discrete}
-use borrow.Author.Tests.{eqb-true, eqb-false, eq-eqb}
+use borrow.Author.Tests.{eqb-false, eq-eqb}
 use lib.Dec.{eqb, leb}
 use lib.ListN.{getD}
 use Rattle.ground.specs.Choice.{pick}
@@ -13,7 +13,7 @@ use Rattle.ground.proofs.Causes.{some-number}
 use Rattle.message.specs.declared.Message.{Message}
 use Rattle.message.specs.declared.Message.the-variants.{Address as Calls, Function as Command, Extended}
 use Rattle.plan.specs.Motions.{motionPlan}
-use Rattle.plan.specs.Plans.{bit, levelIn, groupIn, groupsIn, houseOf, planOf, absolute, extendedPlan}
+use Rattle.plan.specs.Plans.{bit, levelIn, groupIn, groupsIn, houseOf, typeZero, forShutters, planOf, absolute, extendedPlan}
 use Rattle.plan.specs.declared.Act.{Act}
 use Rattle.plan.specs.declared.Act.the-variants.{Nothing, Join, Level, JoinAt, UnitsOn, UnitsOff, Leave, LeaveHouse, Execute, GroupOff, GroupDim, GroupBright}
 use Rattle.plan.specs.declared.Motion.{Motion}
@@ -27,51 +27,28 @@ use Rattle.record.specs.ModuleTable.{joined, left, acted, stepRecord, houseAfte
 use Rattle.module_table.proofs.TableLaws.{byte-of-record, changed-none}
 use Rattle.module_table.proofs.HouseLaws.{run-length, run-record, run-byte, run-house, run-house-other}
 use Rattle.module_table.proofs.Runs.{changed-at-most, run-changed}
-use Rattle.shutter_table.specs.Statements.{everyHouse}
+use Rattle.shutter.specs.Shutters.{ofHouse, ofUnit, reaches}
 use Rattle.shutter_table.proofs.TableLaws.{each-shutter, own-shutters-only, openings-at-most-256}
-use Rattle.room.specs.Rooms.{Room, roomAfter, applyAnswer, roomReport, changesOf}
-use Rattle.room.proofs.ApplyLaws.{house-below, unit-below, modules-size, shutters-size, Ran, Outcome, stays, did, moved, outcome}
-use Rattle.room_laws.specs.Statements.{planConcerns, typeZero, forEveryHouse, OnlyTypeZeroMoves, OwnHouse, OwnHouseOnly, OthersStay}
+use Rattle.room.specs.Rooms.{Room, noChanges, roomAfter, applyAnswer, roomReport, changesOf}
+use Rattle.room.proofs.ApplyLaws.{house-below, modules-size, shutters-size, Ran, Outcome, stays, did, moved, outcome}
+use Rattle.room_laws.specs.Statements.{planConcerns, forEveryHouse, OnlyTypeZeroMoves, OwnHouse, OwnHouseOnly, OthersStay}
 use Rattle.room_laws.specs.Statements.{ByPlan, RecordByRecord, RefusedStays, CountAtMost16, CountAtMost256, ExtendedKeeps}
 use Rattle.room_laws.proofs.ReachLaws.{step-unreached}
 
 -- ---- each message its table
-
--- a plan for one table is none for the other
-apart : {a : Act} {b : Motion} → Run a ≡ Move b → ⊥
-apart e = let z : _≡_ {A = ℕ} 0 1 = cc in omega arith
-
--- type 0 asks for no act, and nothing else for a motion
-no-act : (m : Message) (a : Act) → typeZero m ≡ true → planOf m ≡ Run a → ⊥
-no-act (Calls h u) a zero e = true≢false (sym zero)
-no-act (Command h f) a zero e = true≢false (sym zero)
-no-act (Extended h u d c) a zero e = only-type-zero .type-zero h u d c a (omega (arith, eqb-true (c / 16) 0 zero)) e
-
-no-motion : (m : Message) (a : Motion) → typeZero m ≡ false → planOf m ≡ Move a → ⊥
-no-motion (Calls h u) a other e = apart e
-no-motion (Command h f) a other e = apart e
-no-motion (Extended h u d c) a other e =
-    let (g, v, b, k, is, low) = only-type-zero .others (Extended h u d c) a e in
-    let same : c ≡ k = ap commandOf is in
-    eqb-false (c / 16) 0 other (omega arith)
-  where
-    commandOf : Message → ℕ
-    commandOf (Calls h u) = 0
-    commandOf (Command h f) = 0
-    commandOf (Extended h u d c) = c
 
 pub only-type-zero-moves : OnlyTypeZeroMoves
 only-type-zero-moves m room = record { type-zero = λ zero. modules-stay zero (outcome m room); others = λ other. shutters-stay other (outcome m room) }
   where
     modules-stay : typeZero m ≡ true → Outcome m room → roomAfter m room .modules ≡ room .modules
     modules-stay zero (stays why e same) = ap (λ (x : Room). x .modules) same
-    modules-stay zero (did a r) = absurd (no-act m a zero (r .plan))
+    modules-stay zero (did a r) = absurd (only-type-zero .type-zero m a zero (r .plan))
     modules-stay zero (moved a r) = rw (r .left)
 
     shutters-stay : typeZero m ≡ false → Outcome m room → roomAfter m room .shutters ≡ room .shutters
     shutters-stay other (stays why e same) = ap (λ (x : Room). x .shutters) same
     shutters-stay other (did a r) = rw (r .left)
-    shutters-stay other (moved a r) = absurd (no-motion m a other (r .plan))
+    shutters-stay other (moved a r) = absurd (true≢false (sym (only-type-zero .others m a (r .plan)) ∙ other))
 
 -- ---- only the own house
 
@@ -79,10 +56,10 @@ neither : (a b : Bool) → (a || b) ≡ false → (a ≡ false) × (b ≡ false)
 neither true b e = absurd (true≢false e)
 neither false b e = (refl, e)
 
--- the motion of a plan, if it has one, is for its own house
+-- the motion of a plan, if it has one, reaches no place of another house
 abbrev Home : Plan → Type 0
 Home (Run a) = Unit {0}
-Home (Move a) = everyHouse a ≡ false
+Home (Move a) = (h i : ℕ) → ofHouse h i ≡ false → reaches a h i ≡ false
 Home (Refused why) = Unit {0}
 
 motion-home : (u d c : ℕ) → (eqb c 0x05 || eqb c 0x08 || eqb c 0x0A || eqb c 0x0C) ≡ false → Home (motionPlan u d c)
@@ -92,31 +69,25 @@ motion-home u d c out =
     let two = neither (eqb c 0x05 || eqb c 0x08) (eqb c 0x0A) (three .0) in
     let one = neither (eqb c 0x05) (eqb c 0x08) (two .0) in
     rw (one .0, one .1, two .1, three .1)
-    (pick-both Home (eqb c 0x01) _ _ refl
-    (pick-both Home (eqb c 0x02) _ _ refl
-    (pick-both Home (eqb c 0x03) _ _ refl
-    (pick-both Home (eqb c 0x04) _ _ refl
-    (pick-both Home (eqb c 0x07) _ _ refl
-    (pick-both Home (eqb c 0x09) _ _ refl
-    (pick-both Home (eqb c 0x0B) _ _ refl
-    (pick-both Home (eqb c 0x0E || eqb c 0x0F) _ _ refl tt))))))))
-
-home : (m : Message) (a : Motion) → forEveryHouse m ≡ false → planOf m ≡ Move a → everyHouse a ≡ false
-home (Calls h u) a out e = absurd (apart e)
-home (Command h f) a out e = absurd (apart e)
-home (Extended h u d c) a out e =
-    let (g, v, b, k, is, low) = only-type-zero .others (Extended h u d c) a e in
-    subst Home (sym (type-plan h u d c (type h u d c e)) ∙ e) (motion-home u d c out)
+    (pick-both Home (eqb c 0x01) _ _ (unit u)
+    (pick-both Home (eqb c 0x02) _ _ (unit u)
+    (pick-both Home (eqb c 0x03) _ _ (unit u)
+    (pick-both Home (eqb c 0x04) _ _ (λ h i other. other)
+    (pick-both Home (eqb c 0x07) _ _ (unit u)
+    (pick-both Home (eqb c 0x09) _ _ (unit u)
+    (pick-both Home (eqb c 0x0B) _ _ (λ h i other. other)
+    (pick-both Home (eqb c 0x0E || eqb c 0x0F) _ _ (λ h i other. refl) tt))))))))
   where
-    type : (h u d c : ℕ) → planOf (Extended h u d c) ≡ Move a → eqb (c / 16) 0 ≡ true
-    type h u d c e = go (eqb (c / 16) 0) refl
-      where
-        go : (b : Bool) → eqb (c / 16) 0 ≡ b → eqb (c / 16) 0 ≡ true
-        go true t = t
-        go false t = absurd (no-motion (Extended h u d c) a t e)
+    unit : (u h i : ℕ) → ofHouse h i ≡ false → ofUnit h u i ≡ false
+    unit u h i other = rw other
 
-    type-plan : (h u d c : ℕ) → eqb (c / 16) 0 ≡ true → planOf (Extended h u d c) ≡ motionPlan u d c
-    type-plan h u d c t = rw t
+home : (m : Message) (a : Motion) → forEveryHouse m ≡ false → planOf m ≡ Move a → Home (Move a)
+home m a out e = go m out e (only-type-zero .others m a e)
+  where
+    go : (m : Message) → forEveryHouse m ≡ false → planOf m ≡ Move a → typeZero m ≡ true → Home (Move a)
+    go (Calls h u) out e type = absurd (true≢false (sym type))
+    go (Command h f) out e type = absurd (true≢false (sym type))
+    go (Extended h u d c) out e type = let plan : motionPlan u d c ≡ Move a = rw type at e in subst Home plan (motion-home u d c out)
 
 pub own-house-only : OwnHouseOnly
 own-house-only m room = go (outcome m room)
@@ -142,7 +113,7 @@ own-house-only m room = go (outcome m room)
           modules = λ k out. rw (r .left);
           shutters-long = rw (r .left) (each-shutter a h (room .shutters) size .long);
           shutters = λ one k out.
-              rw (r .left) (own-shutters-only a h (room .shutters) k size (unit-below m a (r .message) (r .plan)) (home m a one (r .plan)) out);
+              rw (r .left) (own-shutters-only a h (room .shutters) k size (home m a one (r .plan) h) out);
         }
 
 -- ---- records that are not concerned
@@ -205,7 +176,7 @@ record-by-record m room none = go (outcome m room)
 pub refused-stays : RefusedStays
 refused-stays m room some = go (outcome m room)
   where
-    go : Outcome m room → (roomAfter m room ≡ room) × (changesOf (applyAnswer m room) ≡ record { levels = 0; openings = 0 })
+    go : Outcome m room → (roomAfter m room ≡ room) × (changesOf (applyAnswer m room) ≡ noChanges)
     go (stays why e same) = (same, rw e)
     go (did a r) = absurd (some (rw (r .answer)))
     go (moved a r) = absurd (some (rw (r .answer)))
@@ -289,8 +260,8 @@ keeps-motion u d c =
     (pick-both Keeps (eqb c 0x0C) _ _ tt
     (pick-both Keeps (eqb c 0x0E || eqb c 0x0F) _ _ tt tt)))))))))))
 
-keeps-plan : (u d c : ℕ) → Keeps (pick (eqb (c / 16) 0) (motionPlan u d c) (extendedPlan u d c))
-keeps-plan u d c = pick-both Keeps (eqb (c / 16) 0) _ _ (keeps-motion u d c) (keeps-extended u d c)
+keeps-plan : (u d c : ℕ) → Keeps (pick (forShutters c) (motionPlan u d c) (extendedPlan u d c))
+keeps-plan u d c = pick-both Keeps (forShutters c) _ _ (keeps-motion u d c) (keeps-extended u d c)
 
 pub extended-keeps : ExtendedKeeps
 extended-keeps h u d c room = go (outcome m room)

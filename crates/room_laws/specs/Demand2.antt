@@ -16,7 +16,7 @@ use Rattle.radio.specs.Codes.{fourBytes, commandOk, commandOf}
 use Rattle.radio.specs.Answers.{readCauses, messagesOf}
 use Rattle.radio.specs.declared.RadioCommand.{RadioCommand}
 use Rattle.room.specs.declared.Changes.{Changes}
-use Rattle.room.specs.Rooms.{Room, changesOf}
+use Rattle.room.specs.Rooms.{Room, noChanges, changesOf}
 use Rattle.room.specs.Routes.{roomAfterAll, radioAfter, radioAnswer}
 use Rattle.room.specs.Mains.{Lending, lentTo, heard, lentCauses, mainsCauses, mainsAfter, mainsLent}
 
@@ -52,9 +52,6 @@ leaves (mains l) room = mainsAfter l room
 -- ---- what it counts
 
 -- counts of modules and of shutters, added up each
-abbrev pub noChanges : Changes
-noChanges = record { levels = 0; openings = 0 }
-
 abbrev pub added : Changes → Changes → Changes
 added c d = record { levels = c .levels + d .levels; openings = c .openings + d .openings }
 

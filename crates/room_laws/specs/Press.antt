@@ -1,5 +1,5 @@
 -- A press, for a reader who knows keypads and no proofs: on a room where another lamp was addressed before, a press at the wall and the same press by
--- radio leave the same room, and the next Off darkens the same lamps.
+-- radio leave the same room, and the next Off darkens the same lamps. A room is its table of modules and its table of shutters.
 use Prim.Native.Nat.{ℕ, _+_, _*_, _≤_, _<_}
 use mathlib.Core.Path.{_≡_}
 use mathlib.Core.Bool.{Bool, true, false, not, _&&_}
@@ -28,7 +28,9 @@ darkens h room i = not (eqb (recordAt (room .modules) i .level) 0) && eqb (recor
 pub record SamePress (z w h u : ℕ) (room : Room) : Type 0 where
   -- a press at the wall and the same press by radio leave the same room,
   pub same-room : leaves (atWall z w h u) room ≡ leaves (byRadio h u) room
-  -- and the next Off darkens the same lamps,
+  -- and no shutter has moved;
+  pub no-shutter : leaves (byRadio h u) room .shutters ≡ room .shutters
+  -- the next Off darkens the same lamps,
   pub same-lamps : (i : ℕ) → darkens h (leaves (atWall z w h u) room) i ≡ darkens h (leaves (byRadio h u) room) i
   -- the one that was pressed among them, if a module is there,
   pub pressed : roomOk room ≡ true → present (recordAt (room .modules) (h * UNITS + u)) ≡ true → darkens h (leaves (byRadio h u) room) (h * UNITS + u) ≡ true

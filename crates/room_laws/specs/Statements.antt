@@ -11,7 +11,7 @@ use Rattle.message.specs.declared.Function.the-variants.{AllUnitsOff, AllLights
 use Rattle.message.specs.declared.Function.the-variants.{StatusOn, StatusOff, StatusRequest}
 use Rattle.message.specs.declared.Message.{Message}
 use Rattle.message.specs.declared.Message.the-variants.{Address as Calls, Function as Command, Extended}
-use Rattle.plan.specs.Plans.{houseOf, planOf}
+use Rattle.plan.specs.Plans.{houseOf, typeZero, planOf}
 use Rattle.plan.specs.declared.Act.{Act}
 use Rattle.plan.specs.declared.Act.the-variants.{Nothing, Address, Obey, Join, Level, JoinAt, UnitsOn, UnitsOff, Leave, LeaveHouse, Execute, GroupOff}
 use Rattle.plan.specs.declared.Act.the-variants.{GroupDim, GroupBright}
@@ -23,8 +23,9 @@ use Rattle.record.specs.Layout.{RECORD-BYTES, UNITS, RECORDS, HEARD-AT, recordA
 use Rattle.record.specs.ModuleTable.{addressed, stepRecord, houseAfter}
 use Rattle.shutter.specs.declared.Shutter.{Shutter}
 use Rattle.shutter.specs.Shutters.{protected}
-use Rattle.shutter_table.specs.ShutterTable.{SHUTTER-BYTES, SHUTTERS, shutterAt, shutterAfter}
-use Rattle.room.specs.Rooms.{Room, roomOk, changes, roomAfter, applyAnswer, roomReport, changesOf}
+use Rattle.shutter_table.specs.ShutterTable.{SHUTTERS, shutterAt, shutterAfter}
+use Rattle.shutter_table.specs.Statements.{ownShutterByte}
+use Rattle.room.specs.Rooms.{Room, roomOk, changes, noChanges, roomAfter, applyAnswer, roomReport, changesOf}
 use Rattle.room.specs.Routes.{roomAfterAll}
 
 -- ---- what a message is about
@@ -49,25 +50,25 @@ hears StatusOff r = false
 hears StatusRequest r = false
 
 -- whether an act reaches the module of unit n, by the house's own bytes
-abbrev pub reaches : Act → House → ℕ → Record → Bool
-reaches Nothing own n r = false
-reaches (Address u) own n r = eqb n u || eqb (own .heard) 1
-reaches (Obey f) own n r = hears f r
-reaches (Join u g) own n r = eqb n u
-reaches (Level u b) own n r = eqb n u
-reaches (JoinAt u g b) own n r = eqb n u
-reaches UnitsOn own n r = true
-reaches UnitsOff own n r = true
-reaches (Leave u gs) own n r = eqb n u
-reaches (LeaveHouse gs) own n r = true
-reaches (Execute g) own n r = member g r
-reaches (GroupOff g) own n r = member g r
-reaches (GroupDim g) own n r = member g r && lamp r
-reaches (GroupBright g) own n r = member g r && lamp r
+abbrev pub actReaches : Act → House → ℕ → Record → Bool
+actReaches Nothing own n r = false
+actReaches (Address u) own n r = eqb n u || eqb (own .heard) 1
+actReaches (Obey f) own n r = hears f r
+actReaches (Join u g) own n r = eqb n u
+actReaches (Level u b) own n r = eqb n u
+actReaches (JoinAt u g b) own n r = eqb n u
+actReaches UnitsOn own n r = true
+actReaches UnitsOff own n r = true
+actReaches (Leave u gs) own n r = eqb n u
+actReaches (LeaveHouse gs) own n r = true
+actReaches (Execute g) own n r = member g r
+actReaches (GroupOff g) own n r = member g r
+actReaches (GroupDim g) own n r = member g r && lamp r
+actReaches (GroupBright g) own n r = member g r && lamp r
 
 -- whether a plan concerns the record of unit n: a module is there, and the act reaches it
 abbrev pub planConcerns : Plan → House → ℕ → Record → Bool
-planConcerns (Run a) own n r = present r && reaches a own n r
+planConcerns (Run a) own n r = present r && actReaches a own n r
 planConcerns (Move a) own n r = false
 planConcerns (Refused why) own n r = false
 
@@ -94,21 +95,11 @@ plannedShutter (Run a) h i s = s
 plannedShutter (Move a) h i s = shutterAfter a h i s
 plannedShutter (Refused why) h i s = s
 
--- "XTC798 type 0": an extended message whose command's top four bits are 0
-abbrev pub typeZero : Message → Bool
-typeZero (Calls h u) = false
-typeZero (Command h f) = false
-typeZero (Extended h u d c) = eqb (c / 16) 0
-
 -- "Commands 05, 08, 0A and 0C reach every house."
 abbrev pub forEveryHouse : Message → Bool
 forEveryHouse (Calls h u) = false
 forEveryHouse (Command h f) = false
 forEveryHouse (Extended h u d c) = eqb c 0x05 || eqb c 0x08 || eqb c 0x0A || eqb c 0x0C
-
--- the bytes of a house's sixteen shutters
-abbrev pub ownShutterByte : ℕ → ℕ → Bool
-ownShutterByte h k = eqb (k / (UNITS * SHUTTER-BYTES)) h
 
 -- ---- the statements
 
@@ -153,7 +144,7 @@ RecordByRecord = (m : Message) (room : Room) → roomReport (applyAnswer m room)
 abbrev pub RefusedStays : Type 0
 RefusedStays =
     (m : Message) (room : Room) → (roomReport (applyAnswer m room) .number ≡ 0 → ⊥)
-    → (roomAfter m room ≡ room) × (changesOf (applyAnswer m room) ≡ record { levels = 0; openings = 0 })
+    → (roomAfter m room ≡ room) × (changesOf (applyAnswer m room) ≡ noChanges)
 
 -- the count of modules is at most 16
 abbrev pub CountAtMost16 : Type 0
@@ -162,6 +153,10 @@ CountAtMost16 = (m : Message) (room : Room) → changesOf (applyAnswer m room) .
 -- the counts of any routine on a room, a whole slice too, are of its 256 records and 256 shutters: each fits the 16 bits that an exported answer has for it
 abbrev pub CountAtMost256 : Type 0
 CountAtMost256 = (before after : Room) → (changes before after .levels ≤ RECORDS) × (changes before after .openings ≤ SHUTTERS)
+
+-- a valid room is valid after every list of messages, both tables
+abbrev pub AllStayValid : Type 0
+AllStayValid = (ms : List Message) (room : Room) → roomOk room ≡ true → roomOk (roomAfterAll ms room) ≡ true
 
 -- "With protection on .. an opening above the limit is cut to it": of a valid room, after every list of messages
 abbrev pub ProtectedLimit : Type 0

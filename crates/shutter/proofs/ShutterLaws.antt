@@ -3,32 +3,35 @@
 --     Fit, fit, fit-ok                              the rules of a shutter that is present, one by one, but for the limit's
 --     absent-ok, present-ok                         a valid shutter that is absent, and one that is not
 --     valid-within                                  the limit's rule
+--     by-most                                       the fields' rules by how far a shutter may be open
 --     set-lifestyles                                the rule of the lifestyles after one of them changed
---     opened-fit, limited-fit, guarded-fit, styled-fit, moved-fit     the ways in which a shutter changes
+--     opening-fit, limit-fit, protection-fit, lifestyles-fit, moved-fit     the ways in which a shutter changes
 --     cut-fit, cut-low, cut-within, cut-once        the cut
 --     shutter-stays-valid, absent-shutter-stays     ShutterStaysValid, AbsentShutterStays
---     cut-to-the-limit, only-then-cut               CutToTheLimit, OnlyThenCut
+--     cut-to-the-limit, only-then-cut, stored-not-cut    CutToTheLimit, OnlyThenCut, StoredNotCut
 --     stays-eight, twice-as-once                    StaysEight, TwiceAsOnce
 use mathlib.Core.Path.{_≡_, refl, sym, ap, ap₂, subst, _∙_}
 use mathlib.Core.Bool.{Bool, true, false, not, _&&_, _||_, and-true, and-false, and-eq-true-iff}
 use mathlib.Core.List.{List}
 use Prim.Native.Nat.{ℕ, _≤_, _<_, min}
 use native.Mathlib.Omega.{arith}
-use native.Mathlib.Decide.{ℕ-discrete}
+use native.Mathlib.Decide.{ℕ-discrete, decLt}
 use borrow.Author.Tests.{leb-true, eqb-true, eq-eqb, le-leb}
 use lib.Dec.{eqb, leb}
-use lib.ListN.{length, getD, set, replicate, length-set}
+use lib.ListN.{length, getD, set, replicate, length-set, List·getD-eq-default}
 use lib.Seq.{getD-set-same, getD-set-other, set-set}
 use Rattle.ground.specs.Choice.{pick}
 use Rattle.ground.specs.Records.{allBelow}
 use Rattle.ground.proofs.Choices.{pick-both, both}
+use Rattle.plan.specs.Motions.{OPEN, motionFits}
 use Rattle.plan.specs.declared.Motion.{Motion}
 use Rattle.plan.specs.declared.Motion.the-variants.{SelfTest, OpenProtected, Limit, OpenUnprotected, OpenHouse, OpenAll}
 use Rattle.plan.specs.declared.Motion.the-variants.{Include, Begin, Exclude, ExcludeAll, CloseHouse, CloseAll}
 use Rattle.shutter.specs.declared.Shutter.{Shutter}
-use Rattle.shutter.specs.Shutters.{present, protected, LIFESTYLES, included, openingFor, OPEN, lifestyleOk, lifestylesOk, fieldsOk}
-use Rattle.shutter.specs.Shutters.{noLifestyles, allZeros, shutterOk, opened, limited, guarded, styled, moved, cut, stepShutter}
-use Rattle.shutter.specs.Statements.{EightEach, ShutterStaysValid, AbsentShutterStays, CutToTheLimit, StaysEight, OnlyThenCut, TwiceAsOnce}
+use Rattle.shutter.specs.Shutters.{present, protected, LIFESTYLES, included, openingFor, lifestyleOk, lifestylesOk, fieldsOk}
+use Rattle.shutter.specs.Shutters.{noLifestyles, allZeros, shutterOk, withOpening, withLimit, withProtection, withLifestyles, moved, cut, stepShutter}
+use Rattle.shutter.specs.Statements.{EightEach, ShutterStaysValid, AbsentShutterStays, CutToTheLimit, StaysEight, OnlyThenCut}
+use Rattle.shutter.specs.Statements.{StoredNotCut, TwiceAsOnce}
 use Rattle.ground.proofs.Records.{below-at, below-all}
 
 -- ---- the rules, one by one
@@ -58,6 +61,27 @@ fields s e =
     let p2 = and-eq-true-iff (leb (s .present) 1 && leb (s .opening) OPEN) (leb (s .limit) OPEN) .0 (p3 .0) in
     let p1 = and-eq-true-iff (leb (s .present) 1) (leb (s .opening) OPEN) .0 (p2 .0) in
     record { one = p1 .0; opening = p1 .1; limit = p2 .1; protection = p3 .1; within = p4 .1 }
+
+-- how far a shutter may be open: within its limit or fully open it is not above 25
+pub by-most : (present opening limit protection : ℕ)
+    → (leb present 1 && leb limit OPEN && leb protection 1 && leb opening (pick (eqb protection 1) limit OPEN)) ≡ fieldsOk present opening limit protection
+by-most present opening limit protection = go (leb present 1) (leb protection 1) (eqb protection 1) (leb limit OPEN) refl (leb opening limit) refl
+  where
+    go : (p q e : Bool) (l : Bool) → leb limit OPEN ≡ l → (w : Bool) → leb opening limit ≡ w
+        → (p && leb limit OPEN && q && leb opening (pick e limit OPEN)) ≡ (p && leb opening OPEN && leb limit OPEN && q && (not e || leb opening limit))
+    go false q e l h w k = refl
+    go true q false l h w k = turned (leb limit OPEN) q (leb opening OPEN)
+      where
+        turned : (l q o : Bool) → (l && q && o) ≡ (o && l && q && true)
+        turned l q true = refl
+        turned true true false = refl
+        turned true false false = refl
+        turned false q false = refl
+    go true q true false h w k = rw h (sym (ap (λ (b : Bool). b && q && leb opening limit) (and-false (leb opening OPEN))))
+    go true q true true h true k =
+        let low : leb opening OPEN ≡ true = le-leb opening OPEN (omega (arith, leb-true opening limit k, leb-true limit OPEN h)) in
+        rw (h, k, low)
+    go true q true true h false k = rw (h, k) (and-false q ∙ sym (and-false (leb opening OPEN && true && q)))
 
 -- and the others of a valid shutter
 rules : (s : Shutter) → shutterOk s ≡ true → (Fields s) × (lifestylesOk LIFESTYLES s ≡ true)
@@ -137,24 +161,20 @@ set-lifestyles marks openings m8 o8 ok l mark x new = below-all _ LIFESTYLES (λ
 
 -- ---- the ways in which a shutter changes
 
--- an opening or limit that is set is one
-at-most-open : (x : ℕ) → leb (min OPEN x) OPEN ≡ true
-at-most-open x = le-leb (min OPEN x) OPEN (omega arith)
-
 module _ (s : Shutter) (f : Fit s) where
-  pub opened-fit : (x : ℕ) → Fit (opened x s)
-  opened-fit x =
-      record { here = f .here; opening = at-most-open x; limit = f .limit; protection = f .protection; lifestyles = f .lifestyles }
+  pub opening-fit : (x : ℕ) → leb x OPEN ≡ true → Fit (withOpening x s)
+  opening-fit x low =
+      record { here = f .here; opening = low; limit = f .limit; protection = f .protection; lifestyles = f .lifestyles }
 
-  pub limited-fit : (x : ℕ) → Fit (limited x s)
-  limited-fit x =
-      record { here = f .here; opening = f .opening; limit = at-most-open x; protection = f .protection; lifestyles = f .lifestyles }
+  pub limit-fit : (x : ℕ) → leb x OPEN ≡ true → Fit (withLimit x s)
+  limit-fit x low =
+      record { here = f .here; opening = f .opening; limit = low; protection = f .protection; lifestyles = f .lifestyles }
 
-  pub guarded-fit : (p : ℕ) → leb p 1 ≡ true → Fit (guarded p s)
-  guarded-fit p h = record { here = f .here; opening = f .opening; limit = f .limit; protection = h; lifestyles = f .lifestyles }
+  pub protection-fit : (p : ℕ) → leb p 1 ≡ true → Fit (withProtection p s)
+  protection-fit p h = record { here = f .here; opening = f .opening; limit = f .limit; protection = h; lifestyles = f .lifestyles }
 
-  pub styled-fit : (marks openings : List ℕ) → Styles marks openings → Fit (styled marks openings s)
-  styled-fit marks openings h =
+  pub lifestyles-fit : (marks openings : List ℕ) → Styles marks openings → Fit (withLifestyles marks openings s)
+  lifestyles-fit marks openings h =
       record { here = f .here; opening = f .opening; limit = f .limit; protection = f .protection; lifestyles = h }
 
   pub cut-fit : Fit (cut s)
@@ -168,22 +188,33 @@ module _ (s : Shutter) (f : Fit s) where
         lifestyles = f .lifestyles;
       }
 
+-- an opening stored for a lifestyle is one; beyond the eight there is 0
+stored-low : (s : Shutter) → Fit s → (l : ℕ) → EightEach s → leb (openingFor l s) OPEN ≡ true
+stored-low s f l eight = go (decLt l LIFESTYLES)
+  where
+    go : Dec (l < LIFESTYLES) → leb (openingFor l s) OPEN ≡ true
+    go (yes below) =
+        let rule = below-at (λ k. lifestyleOk (getD (s .marks) k 0) (openingFor k s)) LIFESTYLES (f .lifestyles) l below in
+        let ranges = and-eq-true-iff (leb (getD (s .marks) l 0) 1 && leb (openingFor l s) OPEN) _ .0 rule .0 in
+        and-eq-true-iff (leb (getD (s .marks) l 0) 1) (leb (openingFor l s) OPEN) .0 ranges .1
+    go (no beyond) = let none : openingFor l s ≡ 0 = List·getD-eq-default (s .openings) 0 (omega (arith, eight .1)) in rw none
+
 -- the shutter after a motion, before the cut
-pub moved-fit : (a : Motion) (s : Shutter) → EightEach s → Fit s → Fit (moved a s)
+pub moved-fit : (a : Motion) (s : Shutter) → EightEach s → motionFits a ≡ true → Fit s → Fit (moved a s)
 unfolding allBelow
-moved-fit (OpenProtected u x) s eight f = guarded-fit (opened x s) (opened-fit s f x) 1 refl
-moved-fit (Limit u x) s eight f = guarded-fit (limited x s) (limited-fit s f x) 1 refl
-moved-fit (OpenUnprotected u x) s eight f = guarded-fit (opened x s) (opened-fit s f x) 0 refl
-moved-fit OpenHouse s eight f = guarded-fit (opened OPEN s) (opened-fit s f OPEN) 0 refl
-moved-fit OpenAll s eight f = guarded-fit (opened OPEN s) (opened-fit s f OPEN) 0 refl
-moved-fit (Include u l x) s eight f =
-    styled-fit s f _ _ (set-lifestyles (s .marks) (s .openings) (eight .0) (eight .1) (f .lifestyles) l 1 (min OPEN x) (rw (at-most-open x)))
-moved-fit (Begin l) s eight f = pick-both Fit (included l s) _ _ (opened-fit s f (openingFor l s)) f
-moved-fit (Exclude u l) s eight f = styled-fit s f _ _ (set-lifestyles (s .marks) (s .openings) (eight .0) (eight .1) (f .lifestyles) l 0 0 refl)
-moved-fit ExcludeAll s eight f = styled-fit s f (replicate LIFESTYLES 0) (replicate LIFESTYLES 0) refl
-moved-fit CloseHouse s eight f = guarded-fit (opened 0 s) (opened-fit s f 0) 1 refl
-moved-fit CloseAll s eight f = guarded-fit (opened 0 s) (opened-fit s f 0) 1 refl
-moved-fit SelfTest s eight f = f
+moved-fit (OpenProtected u x) s eight low f = protection-fit (withOpening x s) (opening-fit s f x low) 1 refl
+moved-fit (Limit u x) s eight low f = protection-fit (withLimit x s) (limit-fit s f x low) 1 refl
+moved-fit (OpenUnprotected u x) s eight low f = protection-fit (withOpening x s) (opening-fit s f x low) 0 refl
+moved-fit OpenHouse s eight low f = protection-fit (withOpening OPEN s) (opening-fit s f OPEN refl) 0 refl
+moved-fit OpenAll s eight low f = protection-fit (withOpening OPEN s) (opening-fit s f OPEN refl) 0 refl
+moved-fit (Include u l x) s eight low f =
+    lifestyles-fit s f _ _ (set-lifestyles (s .marks) (s .openings) (eight .0) (eight .1) (f .lifestyles) l 1 x (rw low))
+moved-fit (Begin l) s eight low f = pick-both Fit (included l s) _ _ (opening-fit s f (openingFor l s) (stored-low s f l eight)) f
+moved-fit (Exclude u l) s eight low f = lifestyles-fit s f _ _ (set-lifestyles (s .marks) (s .openings) (eight .0) (eight .1) (f .lifestyles) l 0 0 refl)
+moved-fit ExcludeAll s eight low f = lifestyles-fit s f (replicate LIFESTYLES 0) (replicate LIFESTYLES 0) refl
+moved-fit CloseHouse s eight low f = protection-fit (withOpening 0 s) (opening-fit s f 0 refl) 1 refl
+moved-fit CloseAll s eight low f = protection-fit (withOpening 0 s) (opening-fit s f 0 refl) 1 refl
+moved-fit SelfTest s eight low f = f
 
 -- ---- the cut
 
@@ -217,10 +248,10 @@ absent-shutter-stays a s gone = rw gone
 
 pub shutter-stays-valid : ShutterStaysValid
 unfolding stepShutter
-shutter-stays-valid a s eight e = go (present s) refl
+shutter-stays-valid a s eight low e = go (present s) refl
   where
     go : (b : Bool) → present s ≡ b → shutterOk (pick b (cut (moved a s)) s) ≡ true
-    go true here = fit-ok (cut (moved a s)) (cut-fit (moved a s) (moved-fit a s eight (fit s here e))) (cut-within (moved a s))
+    go true here = fit-ok (cut (moved a s)) (cut-fit (moved a s) (moved-fit a s eight low (fit s here e))) (cut-within (moved a s))
     go false gone = e
 
 -- a shutter that is present after a motion: what holds of what the motion makes of it, cut
@@ -229,10 +260,42 @@ unfolding stepShutter
 stepped P a s here p = rw here p
 
 pub cut-to-the-limit : CutToTheLimit
-cut-to-the-limit a s here = stepped (λ r. protected r ≡ true → r .opening ≤ r .limit) a s here (cut-low (moved a s))
+cut-to-the-limit a s here = stepped (λ r. protected r ≡ true → r .opening ≡ min (r .limit) (moved a s .opening)) a s here (λ on. rw on)
 
 pub only-then-cut : OnlyThenCut
 only-then-cut a s here = stepped (λ r. protected r ≡ false → r .opening ≡ moved a s .opening) a s here (λ off. rw off)
+
+-- the marks and openings after a motion, by those before: limit and protection make no difference
+moved-lists : (a : Motion) (s : Shutter) (x p : ℕ) → let other = moved a (withLimit x (withProtection p s)) in
+    (other .marks ≡ moved a s .marks) × (other .openings ≡ moved a s .openings)
+moved-lists (OpenProtected u y) s x p = (refl, refl)
+moved-lists (Limit u y) s x p = (refl, refl)
+moved-lists (OpenUnprotected u y) s x p = (refl, refl)
+moved-lists OpenHouse s x p = (refl, refl)
+moved-lists OpenAll s x p = (refl, refl)
+moved-lists (Include u l y) s x p = (refl, refl)
+moved-lists (Begin l) s x p = go (included l s)
+  where
+    go : (b : Bool) → let other = withLimit x (withProtection p s) in
+        (pick b (withOpening (openingFor l s) other) other .marks ≡ pick b (withOpening (openingFor l s) s) s .marks)
+        × (pick b (withOpening (openingFor l s) other) other .openings ≡ pick b (withOpening (openingFor l s) s) s .openings)
+    go true = (refl, refl)
+    go false = (refl, refl)
+moved-lists (Exclude u l) s x p = (refl, refl)
+moved-lists ExcludeAll s x p = (refl, refl)
+moved-lists CloseHouse s x p = (refl, refl)
+moved-lists CloseAll s x p = (refl, refl)
+moved-lists SelfTest s x p = (refl, refl)
+
+pub stored-not-cut : StoredNotCut
+unfolding stepShutter
+stored-not-cut = record { brought = λ u l x s here. rw here; kept = λ a s x p. go a s x p (present s) }
+  where
+    go : (a : Motion) (s : Shutter) (x p : ℕ) (b : Bool) → let other = withLimit x (withProtection p s) in
+        (pick b (cut (moved a other)) other .marks ≡ pick b (cut (moved a s)) s .marks)
+        × (pick b (cut (moved a other)) other .openings ≡ pick b (cut (moved a s)) s .openings)
+    go a s x p true = moved-lists a s x p
+    go a s x p false = (refl, refl)
 
 -- ---- the lists
 
@@ -242,7 +305,7 @@ moved-eight (Limit u x) s eight = eight
 moved-eight (OpenUnprotected u x) s eight = eight
 moved-eight OpenHouse s eight = eight
 moved-eight OpenAll s eight = eight
-moved-eight (Include u l x) s eight = (length-set (s .marks) l 1 ∙ eight .0, length-set (s .openings) l (min OPEN x) ∙ eight .1)
+moved-eight (Include u l x) s eight = (length-set (s .marks) l 1 ∙ eight .0, length-set (s .openings) l x ∙ eight .1)
 moved-eight (Begin l) s eight = pick-both EightEach (included l s) _ _ eight eight
 moved-eight (Exclude u l) s eight = (length-set (s .marks) l 0 ∙ eight .0, length-set (s .openings) l 0 ∙ eight .1)
 moved-eight ExcludeAll s eight = (refl, refl)
@@ -256,7 +319,7 @@ stays-eight a s eight = pick-both EightEach (present s) _ _ (moved-eight a s eig
 
 -- ---- a motion again
 
-moved-present : (a : Motion) (s : Shutter) → moved a s .present ≡ s .present
+pub moved-present : (a : Motion) (s : Shutter) → moved a s .present ≡ s .present
 moved-present (OpenProtected u x) s = refl
 moved-present (Limit u x) s = refl
 moved-present (OpenUnprotected u x) s = refl
@@ -271,11 +334,12 @@ moved-present CloseAll s = refl
 moved-present SelfTest s = refl
 
 -- the lists set again
-restyled-again : (s : Shutter) (l mark x : ℕ)
-    → (let m = styled (set (s .marks) l mark) (set (s .openings) l x) s in cut (styled (set (m .marks) l mark) (set (m .openings) l x) (cut m)) ≡ cut m)
-restyled-again s l mark x =
-    let m = styled (set (s .marks) l mark) (set (s .openings) l x) s in
-    ap₂ (λ (ms xs : List ℕ). cut (styled ms xs (cut m))) (set-set (s .marks) l mark mark) (set-set (s .openings) l x x) ∙ cut-once m
+lifestyle-again : (s : Shutter) (l mark x : ℕ)
+    → (let m = withLifestyles (set (s .marks) l mark) (set (s .openings) l x) s in
+    cut (withLifestyles (set (m .marks) l mark) (set (m .openings) l x) (cut m)) ≡ cut m)
+lifestyle-again s l mark x =
+    let m = withLifestyles (set (s .marks) l mark) (set (s .openings) l x) s in
+    ap₂ (λ (ms xs : List ℕ). cut (withLifestyles ms xs (cut m))) (set-set (s .marks) l mark mark) (set-set (s .openings) l x x) ∙ cut-once m
 
 moved-again : (a : Motion) (s : Shutter) → cut (moved a (cut (moved a s))) ≡ cut (moved a s)
 moved-again (OpenProtected u x) s = refl
@@ -283,19 +347,19 @@ moved-again (Limit u x) s = cut-once (moved (Limit u x) s)
 moved-again (OpenUnprotected u x) s = refl
 moved-again OpenHouse s = refl
 moved-again OpenAll s = refl
-moved-again (Include u l x) s = restyled-again s l 1 (min OPEN x)
+moved-again (Include u l x) s = lifestyle-again s l 1 x
 moved-again (Begin l) s = go (included l s) refl
   where
     again : Shutter → Type 0
     again q = cut (moved (Begin l) (cut q)) ≡ cut q
 
-    told : (q : Shutter) (b : Bool) → included l q ≡ b → moved (Begin l) q ≡ pick b (opened (openingFor l q) q) q
-    told q b e = ap (λ (c : Bool). pick c (opened (openingFor l q) q) q) e
+    told : (q : Shutter) (b : Bool) → included l q ≡ b → moved (Begin l) q ≡ pick b (withOpening (openingFor l q) q) q
+    told q b e = ap (λ (c : Bool). pick c (withOpening (openingFor l q) q) q) e
 
     go : (b : Bool) → included l s ≡ b → again (moved (Begin l) s)
-    go true e = subst again (sym (told s true e)) (ap cut (told (cut (opened (openingFor l s) s)) true e))
+    go true e = subst again (sym (told s true e)) (ap cut (told (cut (withOpening (openingFor l s) s)) true e))
     go false e = subst again (sym (told s false e)) (ap cut (told (cut s) false e) ∙ cut-once s)
-moved-again (Exclude u l) s = restyled-again s l 0 0
+moved-again (Exclude u l) s = lifestyle-again s l 0 0
 moved-again ExcludeAll s = cut-once (moved ExcludeAll s)
 moved-again CloseHouse s = refl
 moved-again CloseAll s = refl

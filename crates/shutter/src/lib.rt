@@ -1,17 +1,17 @@
 // One shutter by value: its fields, tests of them and of a lifestyle, and what a motion makes of it. The table's bytes are the crate above.
 use plan::Motion;
+use plan::OPEN;
 ghost use mathlib.Core.Path.{_≡_};
 ghost use Prim.Native.Nat.{min};
+ghost use lib.Dec.{eqb};
 ghost use lib.ListN.{getD, set};
 ghost use Rattle.ground.specs.Choice.{pick};
-ghost use Rattle.shutter.specs.Shutters.{OPEN, lifestyleOk, fieldsOk, included, openingFor};
-ghost use Rattle.shutter.specs.Shutters.{opened, limited, guarded, styled, moved, cut, stepShutter};
+ghost use Rattle.plan.specs.Motions.{OPEN};
+ghost use Rattle.shutter.specs.Shutters.{lifestyleOk, fieldsOk, included, openingFor};
+ghost use Rattle.shutter.specs.Shutters.{withOpening, withLimit, withProtection, withLifestyles, moved, cut, stepShutter};
 
 // The lifestyles.
 pub const LIFESTYLES: usize = 8;
-
-// The opening of a shutter that is fully open.
-pub const OPEN: u8 = 25;
 
 // A shutter: present 0 or 1; its opening, 0 closed to 25 open, and its limit; sun protection 0 or 1; for each lifestyle a mark, 1 where it is included, and its
 // opening there.
@@ -38,16 +38,19 @@ pub fn lifestyle_valid(mark: u8, x: u8) -> bool
     (mark <= 1) & (x <= OPEN) & ((mark == 1) | (x == 0))
 }
 
+// How far a shutter may be open: to its limit where sun protection is on, and else fully.
+fn most(limit: u8, protection: u8) -> u8
+    ensures { λ r. ⌜ r ≡ pick (eqb protection 1) limit OPEN ⌝ }
+{
+    if protection == 1 { limit } else { OPEN }
+}
+
 // Whether a shutter's fields beside its lifestyles' are in their ranges, and its opening not above a protected limit. That an absent shutter is all zeros is
 // not asked here.
 pub fn fields_valid(present: u8, opening: u8, limit: u8, protection: u8) -> bool
     ensures { λ b. ⌜ b ≡ fieldsOk present opening limit protection ⌝ }
 {
-    (present <= 1)
-        & (opening <= OPEN)
-        & (limit <= OPEN)
-        & (protection <= 1)
-        & (!(protection == 1) | (opening <= limit))
+    (present <= 1) & (limit <= OPEN) & (protection <= 1) & (opening <= most(limit, protection))
 }
 
 // One of eight numbers; there is 0 beyond them.
@@ -71,14 +74,14 @@ fn put_at(xs: [u8; LIFESTYLES], l: u8, x: u8) -> [u8; LIFESTYLES]
 }
 
 // The shutter with another opening.
-fn opened(x: u8, s: Shutter) -> Shutter
-    ensures { λ r. ⌜ r ≡ opened x s ⌝ }
+fn with_opening(x: u8, s: Shutter) -> Shutter
+    ensures { λ r. ⌜ r ≡ withOpening x s ⌝ }
 {
     let marks = s.marks;
     let openings = s.openings;
     Shutter {
         present: s.present,
-        opening: lower(OPEN, x),
+        opening: x,
         limit: s.limit,
         protection: s.protection,
         marks: marks,
@@ -87,15 +90,15 @@ fn opened(x: u8, s: Shutter) -> Shutter
 }
 
 // The shutter with another limit.
-fn limited(x: u8, s: Shutter) -> Shutter
-    ensures { λ r. ⌜ r ≡ limited x s ⌝ }
+fn with_limit(x: u8, s: Shutter) -> Shutter
+    ensures { λ r. ⌜ r ≡ withLimit x s ⌝ }
 {
     let marks = s.marks;
     let openings = s.openings;
     Shutter {
         present: s.present,
         opening: s.opening,
-        limit: lower(OPEN, x),
+        limit: x,
         protection: s.protection,
         marks: marks,
         openings: openings,
@@ -103,8 +106,8 @@ fn limited(x: u8, s: Shutter) -> Shutter
 }
 
 // The shutter with sun protection enabled, 1, or disabled, 0.
-fn guarded(p: u8, s: Shutter) -> Shutter
-    ensures { λ r. ⌜ r ≡ guarded p s ⌝ }
+fn with_protection(p: u8, s: Shutter) -> Shutter
+    ensures { λ r. ⌜ r ≡ withProtection p s ⌝ }
 {
     let marks = s.marks;
     let openings = s.openings;
@@ -119,8 +122,8 @@ fn guarded(p: u8, s: Shutter) -> Shutter
 }
 
 // The shutter with other marks and openings for the lifestyles.
-fn styled(marks: [u8; LIFESTYLES], openings: [u8; LIFESTYLES], s: Shutter) -> Shutter
-    ensures { λ r. ⌜ r ≡ styled marks openings s ⌝ }
+fn with_lifestyles(marks: [u8; LIFESTYLES], openings: [u8; LIFESTYLES], s: Shutter) -> Shutter
+    ensures { λ r. ⌜ r ≡ withLifestyles marks openings s ⌝ }
 {
     Shutter {
         present: s.present,
@@ -133,26 +136,22 @@ fn styled(marks: [u8; LIFESTYLES], openings: [u8; LIFESTYLES], s: Shutter) -> Sh
 }
 
 // The shutter with another mark and opening for one lifestyle.
-fn restyled(l: u8, mark: u8, x: u8, s: Shutter) -> Shutter
-    ensures { λ r. ⌜ r ≡ styled (set (s .marks) l mark) (set (s .openings) l (min OPEN x)) s ⌝ }
+fn with_lifestyle(l: u8, mark: u8, x: u8, s: Shutter) -> Shutter
+    ensures { λ r. ⌜ r ≡ withLifestyles (set (s .marks) l mark) (set (s .openings) l x) s ⌝ }
 {
     let marks = s.marks;
     let openings = s.openings;
-    styled(
-        put_at(marks, l, mark),
-        put_at(openings, l, lower(OPEN, x)),
-        s,
-    )
+    with_lifestyles(put_at(marks, l, mark), put_at(openings, l, x), s)
 }
 
 // The shutter opened as far as it is to be in a lifestyle, where it is included.
 fn begun(l: u8, s: Shutter) -> Shutter
-    ensures { λ r. ⌜ r ≡ pick (included l s) (opened (openingFor l s) s) s ⌝ }
+    ensures { λ r. ⌜ r ≡ pick (included l s) (withOpening (openingFor l s) s) s ⌝ }
 {
     let marks = s.marks;
     let openings = s.openings;
     if number_at(marks, l) == 1 {
-        opened(number_at(openings, l), s)
+        with_opening(number_at(openings, l), s)
     } else {
         s
     }
@@ -164,21 +163,24 @@ fn moved(motion: Motion, s: Shutter) -> Shutter
 {
     match motion {
         Motion::SelfTest => s,
-        Motion::OpenProtected { unit: _, opening } => guarded(1, opened(opening, s)),
-        Motion::Limit { unit: _, limit } => guarded(1, limited(limit, s)),
-        Motion::OpenUnprotected { unit: _, opening } => guarded(0, opened(opening, s)),
-        Motion::OpenHouse => guarded(0, opened(OPEN, s)),
-        Motion::OpenAll => guarded(0, opened(OPEN, s)),
+        Motion::OpenProtected { unit: _, opening } => with_protection(1, with_opening(opening, s)),
+        Motion::Limit { unit: _, limit } => with_protection(1, with_limit(limit, s)),
+        Motion::OpenUnprotected { unit: _, opening } => with_protection(
+            0,
+            with_opening(opening, s),
+        ),
+        Motion::OpenHouse => with_protection(0, with_opening(OPEN, s)),
+        Motion::OpenAll => with_protection(0, with_opening(OPEN, s)),
         Motion::Include {
             unit: _,
             lifestyle,
             opening,
-        } => restyled(lifestyle, 1, opening, s),
+        } => with_lifestyle(lifestyle, 1, opening, s),
         Motion::Begin { lifestyle } => begun(lifestyle, s),
-        Motion::Exclude { unit: _, lifestyle } => restyled(lifestyle, 0, 0, s),
-        Motion::ExcludeAll => styled([0; LIFESTYLES], [0; LIFESTYLES], s),
-        Motion::CloseHouse => guarded(1, opened(0, s)),
-        Motion::CloseAll => guarded(1, opened(0, s)),
+        Motion::Exclude { unit: _, lifestyle } => with_lifestyle(lifestyle, 0, 0, s),
+        Motion::ExcludeAll => with_lifestyles([0; LIFESTYLES], [0; LIFESTYLES], s),
+        Motion::CloseHouse => with_protection(1, with_opening(0, s)),
+        Motion::CloseAll => with_protection(1, with_opening(0, s)),
     }
 }
 
@@ -201,7 +203,8 @@ fn cut(s: Shutter) -> Shutter
 }
 
 // What becomes of a shutter that a motion reaches; which unit it names is not looked at. Where protection is then on, an opening above the limit is cut to it.
-// An opening or limit above 25 in the motion counts as 25, and a lifestyle above 7 changes nothing. A shutter whose present is not 1 stays as it is.
+// An opening or limit that there is not is for the caller to refuse (`plan::motion_fits`), and a lifestyle above 7 is none. A shutter whose present is not 1
+// stays as it is.
 pub fn step(motion: Motion, s: Shutter) -> Shutter
     ensures { λ r. ⌜ r ≡ stepShutter motion s ⌝ }
 {

@@ -3,19 +3,21 @@
 --     shutters-laid                                       ShuttersLaid
 --     mark-at, opening-at                                 a shutter's marks and openings, from where they lie
 --     judged-absent, judged-fields, judged-styles         what is answered of an absent shutter, and of another
---     eight-stored, stored                                a shutter put by its parts
+--     eight-stored, stored, fields-stored                 a shutter put by its parts
 --     eight-sound, sound-eight                            a shutter is sound exactly where its marks and openings are eight each
 --     step-keeps, after-keeps                             a motion leaves a sound shutter sound
---     below-add, zeros-group                              a test at every number, in two parts; a group of zeros keeps the rules
+--     moved-keeps, moved-stored                           a motion that leaves the lifestyles
+--     zeros-ok                                            a shutter of zeros keeps the rules
 --     each-shutter                                        EachShutter
 --     stepped-at, absent-at                               one shutter stepped
 --     run-of                                              the places that a motion covers, each stepped, are the table after it
 --     Whole, whole-table                                  what a valid table is
 --     shutters-stay-valid, own-shutters-only, openings-at-most-256         ShuttersStayValid, OwnShuttersOnly, OpeningsAtMost256
---     reopened-none                                       a table that is left has no opening that differs
+--     openings-none                                       a table that is left has no opening that differs
 use mathlib.Core.Path.{_≡_, refl, sym, ap, ap₂, subst, _∙_}
-use mathlib.Core.Bool.{Bool, true, false, not, _&&_, true≢false, and-true, and-assoc, and-eq-true-iff}
+use mathlib.Core.Bool.{Bool, true, false, not, _&&_, true≢false, false≢true, and-eq-true-iff}
 use mathlib.Core.List.{List, [], _∷_}
+use mathlib.Core.Logic.{⊎-elim}
 use Prim.Native.Nat.{ℕ, zero, suc, _+_, _-_, _*_, _/_, _%_, _≤_, _<_}
 use native.Mathlib.Nat.{add-assoc, add-zero, zero-add, add-suc, suc-add, le-of-suc-le-suc, not-suc-le-zero}
 use native.Mathlib.Decide.{decLt}
@@ -24,26 +26,26 @@ use native.Mathlib.Omega.{arith}
 use borrow.Author.Tests.{eqb-true, eqb-false, eq-eqb, ne-eqb, leb-true, ltb-true, le-leb, lt-ltb}
 use lib.Dec.{eqb, leb, ltb}
 use lib.ListN.{length, getD, set, List·getD-eq-default}
-use lib.Seq.{sets, ext-getD}
+use lib.Seq.{sets, length-sets, ext-getD}
 use Rattle.ground.specs.Choice.{pick}
 use Rattle.ground.specs.Records.{putAt, stepEach, Stepped, allBelow, Sound}
 use Rattle.ground.proofs.Choices.{pick-both, both}
 use Rattle.ground.proofs.Causes.{bad, fine}
 use Rattle.ground.proofs.Lists.{sets-append}
+use Rattle.ground.proofs.Records.{Apart, getD-sets-before, getD-sets-after, getD-sets-in}
 use Rattle.ground.proofs.Records.{put-as, each-length, each-other, each-at, same-records, differing-none, differing-at-most, below-at, below-all}
 use Rattle.plan.specs.declared.Motion.{Motion}
 use Rattle.plan.specs.declared.Motion.the-variants.{SelfTest, OpenProtected, Limit, OpenUnprotected, OpenHouse, OpenAll}
 use Rattle.plan.specs.declared.Motion.the-variants.{Include, Begin, Exclude, ExcludeAll, CloseHouse, CloseAll}
 use Rattle.shutter.specs.declared.Shutter.{Shutter}
-use Rattle.shutter.specs.Shutters.{LIFESTYLES, present, fieldsOk, lifestylesOk, noLifestyles, shutterOk, reaches, stepShutter}
+use Rattle.shutter.specs.Shutters.{LIFESTYLES, present, fieldsOk, lifestylesOk, noLifestyles, shutterOk, ofHouse, reaches, included, moved, stepShutter}
 use Rattle.shutter.specs.Statements.{EightEach}
-use Rattle.shutter.proofs.ShutterLaws.{absent-ok, present-ok, absent-shutter-stays, stays-eight, shutter-stays-valid}
+use Rattle.shutter.proofs.ShutterLaws.{absent-ok, present-ok, absent-shutter-stays, stays-eight, shutter-stays-valid, moved-present}
 use Rattle.shutter_table.specs.Covers.{Covers}
-use Rattle.shutter_table.specs.Groups.{GROUP, GROUP-BYTES, groupOk}
-use Rattle.shutter_table.specs.ShutterRuns.{unitNamed}
+use Rattle.shutter_table.specs.Kept.{keepsLifestyles}
 use Rattle.shutter_table.specs.ShutterTable.{SHUTTER-BYTES, SHUTTERS, SHUTTER-TABLE-BYTES, shutterAt, shutterBytes, shutters, shuttersOk}
-use Rattle.shutter_table.specs.ShutterTable.{shutterAfter, moveAll, openingOf, reopened}
-use Rattle.shutter_table.specs.Statements.{ShuttersLaid, ShutterByShutter, EachShutter, ShuttersStayValid, everyHouse, OwnShuttersOnly}
+use Rattle.shutter_table.specs.ShutterTable.{shutterAfter, moveAll, openingOf, openingsChanged}
+use Rattle.shutter_table.specs.Statements.{ShuttersLaid, ShuttersSound, ShutterByShutter, EachShutter, ShuttersStayValid, OwnShuttersOnly}
 use Rattle.shutter_table.specs.Statements.{OpeningsAtMost256}
 
 -- ---- bytes as a list
@@ -143,9 +145,57 @@ stored t at s eight =
     let place : at + 12 ≡ at + 4 + length (s .marks) = omega arith in
     rw place (sym (sets-append _ (at + 4) (s .marks) (s .openings)) ∙ simp towards-suc)
 
+-- a shutter put whose presence and lifestyles are those that lie there: three bytes
+pub fields-stored : (t : List ℕ) (i : ℕ) (s : Shutter) → i * SHUTTER-BYTES + SHUTTER-BYTES ≤ length t
+    → shutterAt t i .present ≡ s .present → shutterAt t i .marks ≡ s .marks → shutterAt t i .openings ≡ s .openings
+    → sets t (i * SHUTTER-BYTES + 1) (s .opening ∷ s .limit ∷ s .protection ∷ []) ≡ putAt shutters t i s
+unfolding shutterAt
+fields-stored t i s fits here marks openings =
+    sym (ap (putAt shutters t i) (sym read) ∙ put-as shutters shutters-laid t u i fits (length-sets t (at + 1) three) outside)
+  where
+    at : ℕ
+    at = i * SHUTTER-BYTES
+
+    three : List ℕ
+    three = s .opening ∷ s .limit ∷ s .protection ∷ []
+
+    u : List ℕ
+    u = sets t (at + 1) three
+
+    -- the bytes before and after the three are left
+    first : getD u at 0 ≡ getD t at 0
+    first = getD-sets-before three t (at + 1) at 0 (omega arith)
+
+    past : (k : ℕ) → at + 4 ≤ k → getD u k 0 ≡ getD t k 0
+    past k far = getD-sets-after three t (at + 1) k 0 (omega arith)
+
+    outside : (j : ℕ) → Apart shutters i j → getD u j 0 ≡ getD t j 0
+    outside j = ⊎-elim (λ before. getD-sets-before three t (at + 1) j 0 (omega arith)) (λ after. past j (omega arith))
+
+    -- and the three are read back
+    put : (k : ℕ) → k < 3 → getD u (at + (1 + k)) 0 ≡ getD three k 0
+    put k small = ap (λ (n : ℕ). getD u n 0) (sym (add-assoc at 1 k)) ∙ getD-sets-in three t (at + 1) k 0 small (omega arith)
+
+    eight : (k : ℕ) → 4 ≤ k → listed u at k 8 ≡ listed t at k 8
+    eight k far = listed-same u t at at k 8 (λ j below. past (at + (k + j)) (omega arith))
+
+    read : shutterAt u i ≡ s
+    read =
+        rw (
+          first,
+          here,
+          put 0 (omega arith),
+          put 1 (omega arith),
+          put 2 (omega arith),
+          eight 4 (omega arith),
+          eight 12 (omega arith),
+          marks,
+          openings,
+        )
+
 -- ---- sound shutters
 
-pub eight-sound : (s : Shutter) → EightEach s → Sound shutters s
+pub eight-sound : ShuttersSound
 unfolding shutterAt
 eight-sound s e = subst (λ (x : Shutter). Sound shutters x) same (record { size = refl; back = back })
   where
@@ -177,31 +227,43 @@ step-keeps a k s sound = eight-sound (stepShutter a s) (stays-eight a s (sound-e
 pub after-keeps : (a : Motion) (h k : ℕ) (s : Shutter) → Sound shutters s → Sound shutters (shutterAfter a h k s)
 after-keeps a h k s sound = pick-both (λ x. Sound shutters x) (reaches a h k) _ _ (step-keeps a k s sound) sound
 
--- ---- a table judged in groups
+-- ---- what a motion leaves
 
--- a test at every number, in two parts
-pub below-add : (f : ℕ → Bool) (m n : ℕ) → (allBelow m f && allBelow n (λ k. f (m + k))) ≡ allBelow (m + n) f
-unfolding allBelow
-below-add f m zero = and-true (allBelow m f) ∙ ap (λ (k : ℕ). allBelow k f) (sym (add-zero m))
-below-add f m (suc n) =
-    rw (add-suc m n) (sym (and-assoc (allBelow m f) (allBelow n (λ k. f (m + k))) (f (m + n))) ∙ ap (λ (b : Bool). b && f (m + n)) (below-add f m n))
+moved-keeps : (a : Motion) (s : Shutter) → keepsLifestyles a ≡ true → (s .marks ≡ moved a s .marks) × (s .openings ≡ moved a s .openings)
+moved-keeps (OpenProtected u x) s keeps = (refl, refl)
+moved-keeps (Limit u x) s keeps = (refl, refl)
+moved-keeps (OpenUnprotected u x) s keeps = (refl, refl)
+moved-keeps OpenHouse s keeps = (refl, refl)
+moved-keeps OpenAll s keeps = (refl, refl)
+moved-keeps (Include u l x) s keeps = absurd (false≢true keeps)
+moved-keeps (Begin l) s keeps =
+    pick-both (λ (r : Shutter). (s .marks ≡ r .marks) × (s .openings ≡ r .openings)) (included l s) _ _ (refl, refl) (refl, refl)
+moved-keeps (Exclude u l) s keeps = absurd (false≢true keeps)
+moved-keeps ExcludeAll s keeps = absurd (false≢true keeps)
+moved-keeps CloseHouse s keeps = (refl, refl)
+moved-keeps CloseAll s keeps = (refl, refl)
+moved-keeps SelfTest s keeps = (refl, refl)
+
+-- what a motion makes of a shutter, where it leaves the lifestyles, is put by three bytes
+pub moved-stored : (a : Motion) (t : List ℕ) (i : ℕ) (s : Shutter) → length t ≡ SHUTTER-TABLE-BYTES → i < SHUTTERS → s ≡ stepShutter a (shutterAt t i)
+    → keepsLifestyles a ≡ true → sets t (i * SHUTTER-BYTES + 1) (s .opening ∷ s .limit ∷ s .protection ∷ []) ≡ putAt shutters t i s
+unfolding stepShutter
+moved-stored a t i s size below made keeps =
+    let old = shutterAt t i in
+    let kept = moved-keeps a old keeps in
+    let same : (old .present ≡ stepShutter a old .present) × (old .marks ≡ stepShutter a old .marks) × (old .openings ≡ stepShutter a old .openings) =
+    pick-both (λ (r : Shutter). (old .present ≡ r .present) × (old .marks ≡ r .marks) × (old .openings ≡ r .openings)) (present old) _ _
+    (sym (moved-present a old), kept .0, kept .1) (refl, refl, refl) in
+    let all : (old .present ≡ s .present) × (old .marks ≡ s .marks) × (old .openings ≡ s .openings) =
+    subst (λ (r : Shutter). (old .present ≡ r .present) × (old .marks ≡ r .marks) × (old .openings ≡ r .openings)) (sym made) same in
+    fields-stored t i s (omega arith) (all .0) (all .1) (all .2)
+
+-- ---- a table judged
 
 -- a shutter of zeros keeps the rules
-zeros-ok : shutterOk (shutterAt [] 0) ≡ true
+pub zeros-ok : shutterOk (shutterAt [] 0) ≡ true
 unfolding shutterOk shutterAt allBelow
 zeros-ok = refl
-
--- and so does each of a group of zeros
-pub zeros-group : (g : ℕ) (t : List ℕ) → allBelow GROUP-BYTES (λ k. eqb (getD t (g * GROUP-BYTES + k) 0) 0) ≡ true → groupOk g t ≡ true
-zeros-group g t none = below-all (λ n. shutterOk (shutterAt t (g * GROUP + n))) GROUP (λ n below. rw (zeros n below) zeros-ok)
-  where
-    zeros : (n : ℕ) → n < GROUP → shutterAt t (g * GROUP + n) ≡ shutterAt [] 0
-    zeros n below =
-        shutters-laid .same t [] (g * GROUP + n) 0
-        (λ k small.
-        let place : g * GROUP-BYTES + (n * SHUTTER-BYTES + k) ≡ (g * GROUP + n) * SHUTTER-BYTES + k = omega arith in
-        let zero-there = below-at (λ j. eqb (getD t (g * GROUP-BYTES + j) 0) 0) GROUP-BYTES none (n * SHUTTER-BYTES + k) (omega arith) in
-        ap (λ (j : ℕ). getD t j 0) (sym place) ∙ eqb-true (getD t (g * GROUP-BYTES + (n * SHUTTER-BYTES + k)) 0) 0 zero-there)
 
 -- ---- a motion on the table
 
@@ -260,26 +322,11 @@ module _ (a : Motion) (h first many : ℕ) (covers : Covers a h first many) (t :
 pub openings-at-most-256 : OpeningsAtMost256
 openings-at-most-256 before after = differing-at-most shutters openingOf SHUTTERS before after
 
-pub reopened-none : (t : List ℕ) → reopened t t ≡ 0
-reopened-none t = differing-none shutters openingOf SHUTTERS t
-
--- a motion that does not reach every house reaches none of another
-not-reached : (a : Motion) (h i : ℕ) → unitNamed a < 16 → everyHouse a ≡ false → (i / 16 ≡ h → ⊥) → reaches a h i ≡ false
-not-reached (OpenProtected u x) h i unit few other = ne-eqb i (h * 16 + u) (λ e. other (omega arith))
-not-reached (Limit u x) h i unit few other = ne-eqb i (h * 16 + u) (λ e. other (omega arith))
-not-reached (OpenUnprotected u x) h i unit few other = ne-eqb i (h * 16 + u) (λ e. other (omega arith))
-not-reached OpenHouse h i unit few other = ne-eqb (i / 16) h other
-not-reached OpenAll h i unit few other = few
-not-reached (Include u l x) h i unit few other = ne-eqb i (h * 16 + u) (λ e. other (omega arith))
-not-reached (Begin l) h i unit few other = few
-not-reached (Exclude u l) h i unit few other = ne-eqb i (h * 16 + u) (λ e. other (omega arith))
-not-reached ExcludeAll h i unit few other = few
-not-reached CloseHouse h i unit few other = ne-eqb (i / 16) h other
-not-reached CloseAll h i unit few other = few
-not-reached SelfTest h i unit few other = refl
+pub openings-none : (t : List ℕ) → openingsChanged t t ≡ 0
+openings-none t = differing-none shutters openingOf SHUTTERS t
 
 pub own-shutters-only : OwnShuttersOnly
-own-shutters-only a h t k size unit few other = go (decLt k SHUTTER-TABLE-BYTES)
+own-shutters-only a h t k size home other = go (decLt k SHUTTER-TABLE-BYTES)
   where
     by : ShutterByShutter a h t
     by = each-shutter a h t size
@@ -292,8 +339,8 @@ own-shutters-only a h t k size unit few other = go (decLt k SHUTTER-TABLE-BYTES)
         List·getD-eq-default (moveAll a h t) 0 (omega (arith, by .long)) ∙ sym (List·getD-eq-default t 0 (omega arith))
     go (yes low) =
         let place : i * SHUTTER-BYTES + k % SHUTTER-BYTES ≡ k = omega arith in
-        let house : i / 16 ≡ h → ⊥ = λ e. eqb-false (k / (16 * SHUTTER-BYTES)) h other (omega arith) in
-        let stays : shutterAt (moveAll a h t) i ≡ shutterAt t i = by .each i (omega arith) ∙ rw (not-reached a h i unit few house) in
+        let house : ofHouse h i ≡ false = ne-eqb (i / 16) h (λ e. eqb-false (k / (16 * SHUTTER-BYTES)) h other (omega arith)) in
+        let stays : shutterAt (moveAll a h t) i ≡ shutterAt t i = by .each i (omega arith) ∙ rw (home i house) in
         subst (λ (j : ℕ). getD (moveAll a h t) j 0 ≡ getD t j 0) place
         (shutters-laid .byte (moveAll a h t) i (k % SHUTTER-BYTES) (omega arith)
         ∙ ap (λ (s : Shutter). getD (shutterBytes s) (k % SHUTTER-BYTES) 0) stays
@@ -313,10 +360,11 @@ whole-table t e =
 
 pub shutters-stay-valid : ShuttersStayValid
 unfolding shuttersOk
-shutters-stay-valid a h t ok =
+shutters-stay-valid a h t low ok =
     let was = whole-table t ok in
     let by = each-shutter a h t (was .size) in
     rw (by .long, was .long)
     (below-all (λ i. shutterOk (shutterAt (moveAll a h t) i)) SHUTTERS
     (λ i below. rw (by .each i below)
-    (pick-both (λ s. shutterOk s ≡ true) (reaches a h i) _ _ (shutter-stays-valid a (shutterAt t i) (read-eight t i) (was .each i below)) (was .each i below))))
+    (pick-both (λ s. shutterOk s ≡ true) (reaches a h i) _ _
+    (shutter-stays-valid a (shutterAt t i) (read-eight t i) low (was .each i below)) (was .each i below))))

@@ -1,5 +1,6 @@
 pub mod ShutterTable
 pub mod ShutterRuns
 pub mod Covers
-pub mod Groups
+pub mod Kept
+pub mod Eights
 pub mod Statements

@@ -6,7 +6,7 @@ use mathlib.Core.List.{List, [], _∷_, _++_}
 use lib.Dec.{eqb}
 use lib.ListN.{length, getD}
 use Rattle.ground.specs.Choice.{pick}
-use Rattle.ground.specs.Records.{Layout, stepEach, allBelow, differing}
+use Rattle.ground.specs.Records.{Layout, stepEach, allBelow, differing, valueAt}
 use Rattle.plan.specs.declared.Motion.{Motion}
 use Rattle.shutter.specs.declared.Shutter.{Shutter}
 use Rattle.shutter.specs.Shutters.{shutterOk, reaches, stepShutter}
@@ -44,7 +44,7 @@ shutterBytes s = s .present ∷ s .opening ∷ s .limit ∷ s .protection ∷ (s
 abbrev pub shutters : Layout Shutter
 shutters = record { size = SHUTTER-BYTES; at = shutterAt; bytes = shutterBytes }
 
--- each shutter keeps the rules
+-- the table has its length, and each shutter keeps the rules
 unfoldable pub shuttersOk : List ℕ → Bool
 shuttersOk t = eqb (length t) SHUTTER-TABLE-BYTES && allBelow SHUTTERS (λ i. shutterOk (shutterAt t i))
 
@@ -60,5 +60,5 @@ moveAll a h t = stepEach shutters (shutterAfter a h) 0 SHUTTERS t
 abbrev pub openingOf : Shutter → ℕ
 openingOf s = s .opening
 
-abbrev pub reopened : List ℕ → List ℕ → ℕ
-reopened before after = differing shutters openingOf SHUTTERS before after
+abbrev pub openingsChanged : List ℕ → List ℕ → ℕ
+openingsChanged before after = differing (valueAt shutters openingOf) SHUTTERS before after

@@ -2,23 +2,28 @@
 use ground::CountAnswer;
 use ground::Refusal;
 use ground::count_of;
+use ground::zeros;
 use plan::Motion;
+use plan::motion_fits;
 use shutter::LIFESTYLES;
 use shutter::Shutter;
 use shutter::fields_valid;
 use shutter::lifestyle_valid;
 use shutter::step;
 ghost use mathlib.Core.Path.{_≡_};
+ghost use mathlib.Core.Bool.{true};
+ghost use mathlib.Core.List.{[], _∷_};
 ghost use Prim.Native.Nat.{_+_, _*_, _≤_, _<_};
-ghost use lib.Dec.{eqb};
-ghost use lib.ListN.{length, getD};
+ghost use lib.ListN.{length};
 ghost use lib.Seq.{sets};
 ghost use Rattle.ground.specs.Records.{putAt, Stepped, allBelow};
 ghost use Rattle.shutter.specs.Shutters.{LIFESTYLES, lifestylesOk, noLifestyles, shutterOk, stepShutter};
-ghost use Rattle.shutter_table.specs.Covers.{Covers};
-ghost use Rattle.shutter_table.specs.Groups.{GROUP-BYTES, GROUPS, groupOk};
-ghost use Rattle.shutter_table.specs.ShutterRuns.{unitNamed, runAnswer, tableAfter};
-ghost use Rattle.shutter_table.specs.ShutterTable.{SHUTTERS, SHUTTER-TABLE-BYTES, shutterAt, shutters, shuttersOk, moveAll, openingOf, reopened};
+ghost use Rattle.shutter_table.specs.Covers.{Covers, SteppedRun};
+ghost use Rattle.shutter_table.specs.Eights.{EIGHTS, eightOk};
+ghost use Rattle.shutter_table.specs.Kept.{keepsLifestyles};
+ghost use Rattle.shutter_table.specs.ShutterRuns.{unitNamed, motionAnswer, shuttersAfter};
+ghost use Rattle.shutter_table.specs.ShutterTable.{SHUTTERS, SHUTTER-BYTES, SHUTTER-TABLE-BYTES, shutterAt, shutters, shuttersOk, moveAll};
+ghost use Rattle.shutter_table.specs.ShutterTable.{openingOf, openingsChanged};
 
 // The bytes of a shutter.
 pub const SHUTTER_BYTES: usize = 20;
@@ -32,12 +37,12 @@ pub const SHUTTERS: usize = 256;
 // The bytes of a table.
 pub const SHUTTER_TABLE_BYTES: usize = SHUTTERS * SHUTTER_BYTES;
 
-// Shutters are judged in groups of eight; a group whose bytes are all zeros is passed over.
-const GROUP: usize = 8;
+// Shutters are judged eight at a time; eight whose bytes are all zeros are passed over.
+const EIGHT: usize = 8;
 
-const GROUP_BYTES: usize = GROUP * SHUTTER_BYTES;
+const EIGHT_BYTES: usize = EIGHT * SHUTTER_BYTES;
 
-const GROUPS: usize = SHUTTERS / GROUP;
+const EIGHTS: usize = SHUTTERS / EIGHT;
 
 // Shutter i of a table.
 fn load(t: &[u8], i: usize) -> Shutter
@@ -119,29 +124,14 @@ fn shutter_ok(t: &[u8], i: usize) -> bool
     styles_ok(t, i)
 }
 
-// Whether the bytes of group g are all zeros.
-fn no_bytes(t: &[u8], g: usize) -> bool
-    requires { ⌜ (length (now t) ≡ SHUTTER-TABLE-BYTES) × (g < GROUPS) ⌝ }
-    ensures { λ r. ⌜ r ≡ allBelow GROUP-BYTES (λ k. eqb (getD (now (t .entry)) (g * GROUP-BYTES + k) 0) 0) ⌝ }
+// Whether each shutter of the e-th eight keeps the rules. It ends at the first that does not.
+fn each_ok(t: &[u8], e: usize) -> bool
+    requires { ⌜ (length (now t) ≡ SHUTTER-TABLE-BYTES) × (e < EIGHTS) ⌝ }
+    ensures { λ r. ⌜ r ≡ eightOk e (now (t .entry)) ⌝ }
 {
-    let first = g * GROUP_BYTES;
-    let mut none = true;
-    let mut k = 0;
-    while k < GROUP_BYTES {
-        none = none & (t[first + k] == 0);
-        k += 1;
-    }
-    none
-}
-
-// Whether each shutter of group g keeps the rules. It ends at the first that does not.
-fn each_ok(t: &[u8], g: usize) -> bool
-    requires { ⌜ (length (now t) ≡ SHUTTER-TABLE-BYTES) × (g < GROUPS) ⌝ }
-    ensures { λ r. ⌜ r ≡ groupOk g (now (t .entry)) ⌝ }
-{
-    let first = g * GROUP;
+    let first = e * EIGHT;
     let mut n = 0;
-    while n < GROUP {
+    while n < EIGHT {
         if !shutter_ok(t, first + n) {
             return false;
         }
@@ -150,12 +140,16 @@ fn each_ok(t: &[u8], g: usize) -> bool
     true
 }
 
-// The same, and a group with no shutter is passed over.
-fn group_ok(t: &[u8], g: usize) -> bool
-    requires { ⌜ (length (now t) ≡ SHUTTER-TABLE-BYTES) × (g < GROUPS) ⌝ }
-    ensures { λ r. ⌜ r ≡ groupOk g (now (t .entry)) ⌝ }
+// The same, and eight absent shutters are passed over.
+fn eight_ok(t: &[u8], e: usize) -> bool
+    requires { ⌜ (length (now t) ≡ SHUTTER-TABLE-BYTES) × (e < EIGHTS) ⌝ }
+    ensures { λ r. ⌜ r ≡ eightOk e (now (t .entry)) ⌝ }
 {
-    if no_bytes(t, g) { true } else { each_ok(t, g) }
+    let from = e * EIGHT_BYTES;
+    if zeros(&t[from..from + EIGHT_BYTES]) {
+        return true;
+    }
+    each_ok(t, e)
 }
 
 // Whether each shutter keeps the rules.
@@ -164,10 +158,10 @@ fn all_ok(t: &[u8]) -> bool
     ensures { λ r. ⌜ r ≡ allBelow SHUTTERS (λ i. shutterOk (shutterAt (now (t .entry)) i)) ⌝ }
 {
     let mut ok = true;
-    let mut g = 0;
-    while g < GROUPS {
-        ok = ok & group_ok(t, g);
-        g += 1;
+    let mut e = 0;
+    while e < EIGHTS {
+        ok = ok & eight_ok(t, e);
+        e += 1;
     }
     ok
 }
@@ -213,8 +207,67 @@ fn store(t: &mut [u8], i: usize, s: Shutter)
     put_eight(t, at + 12, openings);
 }
 
-// Steps shutter i of a table, and answers 1 where its opening changed. An absent shutter stays as it is.
-fn step_at(t: &mut [u8], i: usize, motion: Motion) -> usize
+// Puts what a motion can change of a shutter beside its lifestyles: the three bytes after that of its presence.
+fn store_fields(t: &mut [u8], i: usize, stepped: Shutter)
+    requires { ⌜ (length (now t) ≡ SHUTTER-TABLE-BYTES) × (i < SHUTTERS) ⌝ }
+    ensures { λ _. ⌜ now (t .exit) ≡ sets (now (t .entry)) (i * SHUTTER-BYTES + 1) (stepped .opening ∷ stepped .limit ∷ stepped .protection ∷ []) ⌝ }
+{
+    let at = i * SHUTTER_BYTES;
+    t[at + 1] = stepped.opening;
+    t[at + 2] = stepped.limit;
+    t[at + 3] = stepped.protection;
+}
+
+// Whether a motion leaves the marks and openings for the lifestyles.
+fn keeps_lifestyles(motion: Motion) -> bool
+    ensures { λ b. ⌜ b ≡ keepsLifestyles motion ⌝ }
+{
+    match motion {
+        Motion::SelfTest => true,
+        Motion::OpenProtected {
+            unit: _,
+            opening: _,
+        } => true,
+        Motion::Limit { unit: _, limit: _ } => true,
+        Motion::OpenUnprotected {
+            unit: _,
+            opening: _,
+        } => true,
+        Motion::OpenHouse => true,
+        Motion::OpenAll => true,
+        Motion::Include {
+            unit: _,
+            lifestyle: _,
+            opening: _,
+        } => false,
+        Motion::Begin { lifestyle: _ } => true,
+        Motion::Exclude {
+            unit: _,
+            lifestyle: _,
+        } => false,
+        Motion::ExcludeAll => false,
+        Motion::CloseHouse => true,
+        Motion::CloseAll => true,
+    }
+}
+
+// Steps shutter i of a table by a motion that leaves the lifestyles, whose sixteen bytes are then not stored. Answers 1 where its opening changed. An absent
+// shutter stays as it is.
+fn step_fields(t: &mut [u8], i: usize, motion: Motion) -> usize
+    requires { ⌜ (length (now t) ≡ SHUTTER-TABLE-BYTES) × (i < SHUTTERS) × (keepsLifestyles motion ≡ true) ⌝ }
+    ensures { λ r. ⌜ Stepped shutters openingOf (stepShutter motion) i (now (t .entry)) (now (t .exit)) r ⌝ }
+{
+    if t[i * SHUTTER_BYTES] != 1 {
+        return 0;
+    }
+    let before = load(t, i);
+    let stepped = step(motion, before);
+    store_fields(t, i, stepped);
+    count_of(before.opening == stepped.opening)
+}
+
+// The same by any motion.
+fn step_whole(t: &mut [u8], i: usize, motion: Motion) -> usize
     requires { ⌜ (length (now t) ≡ SHUTTER-TABLE-BYTES) × (i < SHUTTERS) ⌝ }
     ensures { λ r. ⌜ Stepped shutters openingOf (stepShutter motion) i (now (t .entry)) (now (t .exit)) r ⌝ }
 {
@@ -293,34 +346,62 @@ fn unit_named(motion: Motion) -> u8
     }
 }
 
-// Runs a motion on the shutters that it reaches, and answers how many openings changed.
-fn run_motion(t: &mut [u8], house: usize, motion: Motion) -> usize
-    requires { ⌜ (length (now t) ≡ SHUTTER-TABLE-BYTES) × (house < 16) × (unitNamed motion < 16) ⌝ }
-    ensures { λ r. ⌜ (now (t .exit) ≡ moveAll motion house (now (t .entry))) × (r ≡ reopened (now (t .entry)) (now (t .exit))) ⌝ }
+// Steps so many shutters from a place on by a motion that leaves the lifestyles, and answers how many openings changed. It is a loop of its own: with the
+// choice of what to store in it each turn took a quarter more instructions.
+fn run_fields(t: &mut [u8], first: usize, many: usize, motion: Motion) -> usize
+    requires { ⌜ (length (now t) ≡ SHUTTER-TABLE-BYTES) × (first + many ≤ SHUTTERS) × (keepsLifestyles motion ≡ true) ⌝ }
+    ensures { λ r. ⌜ SteppedRun motion first many (now (t .entry)) (now (t .exit)) r ⌝ }
 {
-    let p = places_of(motion, house);
-    let first = p.first;
-    let many = p.many;
     let mut count: usize = 0;
     let mut n: usize = 0;
     while n < many {
-        count = count + step_at(t, first + n, motion);
+        count = count + step_fields(t, first + n, motion);
         n += 1;
     }
     count
 }
 
-// Runs a motion for a house on a table, and answers how many openings changed. Refused: a table of another length, then a house or unit above 15. The table's
-// rules are not judged.
+// The same by any motion.
+fn run_whole(t: &mut [u8], first: usize, many: usize, motion: Motion) -> usize
+    requires { ⌜ (length (now t) ≡ SHUTTER-TABLE-BYTES) × (first + many ≤ SHUTTERS) ⌝ }
+    ensures { λ r. ⌜ SteppedRun motion first many (now (t .entry)) (now (t .exit)) r ⌝ }
+{
+    let mut count: usize = 0;
+    let mut n: usize = 0;
+    while n < many {
+        count = count + step_whole(t, first + n, motion);
+        n += 1;
+    }
+    count
+}
+
+// Runs a motion on the shutters that it reaches, and answers how many openings changed.
+fn run_motion(t: &mut [u8], house: usize, motion: Motion) -> usize
+    requires { ⌜ (length (now t) ≡ SHUTTER-TABLE-BYTES) × (house < 16) × (unitNamed motion < 16) ⌝ }
+    ensures { λ r. ⌜ (now (t .exit) ≡ moveAll motion house (now (t .entry))) × (r ≡ openingsChanged (now (t .entry)) (now (t .exit))) ⌝ }
+{
+    let p = places_of(motion, house);
+    if keeps_lifestyles(motion) {
+        run_fields(t, p.first, p.many, motion)
+    } else {
+        run_whole(t, p.first, p.many, motion)
+    }
+}
+
+// Runs a motion for a house on a table, and answers how many openings changed. Refused: a table of another length, then a house or unit above 15, then an
+// opening above 25. The table's rules are not judged.
 pub fn run(t: &mut [u8], house: u8, motion: Motion) -> CountAnswer
-    ensures answer { λ r. ⌜ r ≡ runAnswer motion house (now (t .entry)) ⌝ }
-    ensures table { λ _. ⌜ now (t .exit) ≡ tableAfter motion house (now (t .entry)) ⌝ }
+    ensures answer { λ r. ⌜ r ≡ motionAnswer motion house (now (t .entry)) ⌝ }
+    ensures table { λ _. ⌜ now (t .exit) ≡ shuttersAfter motion house (now (t .entry)) ⌝ }
 {
     if t.len() != SHUTTER_TABLE_BYTES {
         return CountAnswer::Refused(Refusal::ShutterTable);
     }
     if !((house <= 15) & (unit_named(motion) <= 15)) {
         return CountAnswer::Refused(Refusal::Message);
+    }
+    if !motion_fits(motion) {
+        return CountAnswer::Refused(Refusal::Opening);
     }
     CountAnswer::Done(run_motion(t, house as usize, motion))
 }

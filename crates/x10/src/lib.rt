@@ -39,12 +39,21 @@ ghost use Rattle.x10.specs.Radio.{codeAnswer, codeAfter, commandAnswer, 
 
 mod commands;
 
-// What is handed on for five numbers that make no message: one of house 16, which every routine refuses by 2 in its own order. It is
-// handed on by a call of its own: a message chosen first would be copied.
+// What is handed on for five numbers that make no message: one of house 16, which every routine refuses by 2 in its own order.
 fn no_message() -> Message
     ensures { λ r. ⌜ r ≡ noMessage ⌝ }
 {
     Message::Address { house: 16, unit: 0 }
+}
+
+// The message that five numbers hand on.
+fn handed_on(kind: u8, house: u8, third: u8, data: u8, command: u8) -> Message
+    ensures { λ m. ⌜ m ≡ handedOn (messageFrom kind house third «data» command) ⌝ }
+{
+    match message_from(kind, house, third, data, command) {
+        MessageRead::Message(m) => m,
+        MessageRead::Refused(_) => no_message(),
+    }
 }
 
 // Writes the burst of a message to the front of a lent buffer; the count is that of its half-cycles. Refused 2, 9.
@@ -60,6 +69,7 @@ pub extern "C" fn x10_burst(
     ensures answer { λ r. ⌜ r ≡ packed (burstAnswer (handedOn (messageFrom kind house third «data» command)) (length (now (buf .entry)))) ⌝ }
     ensures buffer { λ _. ⌜ now (buf .exit) ≡ bufferAfter (handedOn (messageFrom kind house third «data» command)) (now (buf .entry)) ⌝ }
 {
+    // In each arm a call of its own: a message chosen first is copied, eight instructions of two hundred.
     match message_from(kind, house, third, data, command) {
         MessageRead::Message(m) => pack(write_burst(m, buf)),
         MessageRead::Refused(_) => pack(write_burst(no_message(), buf)),
@@ -164,10 +174,8 @@ pub extern "C" fn x10_apply(
         ⌜ roomOf (now (table .exit)) (now (shutters .exit)) ≡ roomAfter (handedOn (messageFrom kind house third «data» command))
         (roomOf (now (table .entry)) (now (shutters .entry))) ⌝ }
 {
-    match message_from(kind, house, third, data, command) {
-        MessageRead::Message(m) => pack(tally(apply(table, shutters, m))),
-        MessageRead::Refused(_) => pack(tally(apply(table, shutters, no_message()))),
-    }
+    let m = handed_on(kind, house, third, data, command);
+    pack(tally(apply(table, shutters, m)))
 }
 
 // Applies what a radio code means to both lent tables, both messages or none; the counts are those of `x10_apply`. Refused 1, 16, 3, 17, 12, 13, 14, in this
@@ -230,10 +238,8 @@ pub extern "C" fn x10_station_load(
     ensures answer { λ r. ⌜ r ≡ packed (loadedAnswer (now (state .entry)) (handedOn (messageFrom kind house third «data» command)) draw) ⌝ }
     ensures state { λ _. ⌜ now (state .exit) ≡ loadedAfter (now (state .entry)) (handedOn (messageFrom kind house third «data» command)) draw ⌝ }
 {
-    match message_from(kind, house, third, data, command) {
-        MessageRead::Message(m) => pack(station_lent::load(state, m, draw)),
-        MessageRead::Refused(_) => pack(station_lent::load(state, no_message(), draw)),
-    }
+    let m = handed_on(kind, house, third, data, command);
+    pack(station_lent::load(state, m, draw))
 }
 
 // What the station in eight lent bytes sends in this half-cycle: the count is 0 or 1. Refused 6.

@@ -12,7 +12,7 @@ use x10_model::message::{Function, Word};
 use x10_model::table;
 
 pub const TABLE: usize = table::LEN;
-const RECORD: usize = 8;
+pub const RECORD: usize = 8;
 const RECORDS: usize = 256;
 
 /// Bytes at and around the bounds that the rules name.

@@ -5,7 +5,7 @@
 //! rounds. Lent buffers are not cleared between calls; tables and receivers start each batch from the
 //! same bytes, which are put there outside the timed part.
 
-use crate::inputs::{self, SHUTTER_TABLE, TABLE};
+use crate::inputs::{self, RECORD, SHUTTER, SHUTTER_TABLE, TABLE};
 use crate::rng::Rng;
 use std::hint::black_box;
 use std::time::Instant;
@@ -162,6 +162,7 @@ pub fn all(seed: u64, rounds: usize, only: Option<usize>) -> Vec<Row> {
     mains_route(&start, &line, line.len(), "256 modules, slice of bursts, a half-cycle", &mut rows);
     stations(rng, &mut rows);
     type_0(seed, &start, &mut rows);
+    guest_house(seed, &mut rows);
     rows.rows
 }
 
@@ -314,6 +315,17 @@ fn type_0(seed: u64, start: &Start, rows: &mut Rows) {
     apply(start, &units, "256 shutters, type 0 for one unit, a call", rows);
     let begins: Vec<[u8; 5]> = (0..256).map(|_| [3, 0, 0, rng.byte(), 0x08]).collect();
     apply(start, &begins, "256 shutters, begin lifestyle, a call", rows);
+}
+
+/// A guest house as it is: modules at all units of house A and at six of house B, shutters at eight of
+/// house A, and nothing in the other houses.
+fn guest_house(seed: u64, rows: &mut Rows) {
+    let rng = &mut Rng::new(seed ^ 0xA2);
+    let mut start = Start { table: full_table(rng), shutters: full_shutters(seed) };
+    start.table[22 * RECORD..].fill(0);
+    start.shutters[8 * SHUTTER..].fill(0);
+    let messages: Vec<[u8; 5]> = (0..256).map(|_| inputs::message(rng)).collect();
+    apply(&start, &messages, "22 modules and 8 shutters, mixed messages, a call", rows);
 }
 
 fn apply(start: &Start, messages: &[[u8; 5]], timed: &'static str, rows: &mut Rows) {

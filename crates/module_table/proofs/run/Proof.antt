@@ -6,18 +6,18 @@ use native.Mathlib.Omega.{arith}
 use Rattle.ground.specs.declared.CountAnswer.the-variants.{Done}
 use Rattle.ground.proofs.Causes.{ladder}
 use Rattle.record.specs.ModuleTable.{changed}
-use Rattle.module_table.specs.ModuleRuns.{runAnswer, tableAfter}
+use Rattle.module_table.specs.ModuleRuns.{actAnswer, modulesAfter}
 use Rattle.module_table.proofs.Runs.{run-done}
 use borrow.Author.Needs.{needs}
 use Rattle.module_table.proofs.run.Statement.{statement}
 use Rattle.module_table.proofs.run.Tie as tie
 
 returns : tie.Need-returns
-unfolding runAnswer tableAfter
+unfolding actAnswer modulesAfter
 returns c = (search ladder, search ladder)
 
 returns-2 : tie.Need-returns-2
-unfolding runAnswer tableAfter
+unfolding actAnswer modulesAfter
 returns-2 c = (search ladder, search ladder)
 
 run-act-requires : tie.Need-run-act-requires

@@ -1,7 +1,6 @@
 -- `fitting` meets its contract: only a motion brings an opening, and it is the one that is tested.
 use mathlib.Core.Path.{sym, ap, _∙_}
 use borrow.Author.Needs.{needs}
-use borrow.Author.Tests.{le-leb, lt-leb}
 use Rattle.ground.specs.Refusals.{judged}
 use Rattle.ground.proofs.Causes.{ladder}
 use Rattle.plan.specs.Plans.{fits}
@@ -14,8 +13,8 @@ enum-known-p c = search needs
 enum-known-p-2 : tie.Need-enum-known-p-2
 enum-known-p-2 c = search needs
 
-brought-by-requires : tie.Need-brought-by-requires
-brought-by-requires c κs = search needs
+motion-fits-requires : tie.Need-motion-fits-requires
+motion-fits-requires c κs = search needs
 
 enum-known-p-3 : tie.Need-enum-known-p-3
 enum-known-p-3 c = search needs
@@ -27,14 +26,14 @@ returns c = simp (c .before .p .given .1)
 returns-2 : tie.Need-returns-2
 returns-2 c =
     let is = c .before .before .before .p2 .given .1 in
-    let fit = ap fits is ∙ (rw (c .before .brought-by .ensures) at (le-leb _ _ (c .if1 .taken))) in
+    let fit = ap fits is ∙ sym (c .before .motion-fits .ensures) ∙ c .if1 .taken in
     let same = sym is in
     search ladder
 
 returns-3 : tie.Need-returns-3
 returns-3 c =
     let is = c .before .before .before .p2 .given .1 in
-    let fit = ap fits is ∙ (rw (c .before .brought-by .ensures) at (lt-leb _ _ (c .if1 .left))) in
+    let fit = ap fits is ∙ sym (c .before .motion-fits .ensures) ∙ c .if1 .left in
     search ladder
 
 returns-4 : tie.Need-returns-4
@@ -47,7 +46,7 @@ fitting-spec =
     (tie.spec
     enum-known-p
     enum-known-p-2
-    brought-by-requires
+    motion-fits-requires
     enum-known-p-3
     returns
     returns-2

@@ -8,16 +8,16 @@ use Rattle.ground.specs.Records.{allBelow}
 use Rattle.ground.proofs.Causes.{bad, fine}
 use Rattle.ground.proofs.Records.{below-not}
 use Rattle.shutter.specs.Shutters.{shutterOk}
-use Rattle.shutter_table.specs.Groups.{GROUP}
+use Rattle.shutter_table.specs.Eights.{EIGHT}
 use Rattle.shutter_table.specs.ShutterTable.{shutterAt}
 use Rattle.shutter_table.proofs.each_ok.Statement.{statement}
 use Rattle.shutter_table.proofs.each_ok.Tie as tie
 
 abbrev Inv-loop : tie.InvT-loop
-Inv-loop t g first n₀ n = (n ≤ GROUP) × (allBelow n (λ k. shutterOk (shutterAt t (g * GROUP + k))) ≡ true)
+Inv-loop t e first n₀ n = (n ≤ EIGHT) × (allBelow n (λ k. shutterOk (shutterAt t (e * EIGHT + k))) ≡ true)
 
 abbrev μ-loop : tie.MeasureT-loop
-μ-loop t g first n₀ n = GROUP - n
+μ-loop t e first n₀ n = EIGHT - n
 
 mul-first : tie.Need-mul-first Inv-loop μ-loop
 mul-first c = omega arith
@@ -35,7 +35,7 @@ shutter-ok-requires c κs = (c .before .before .before .pre .0, omega arith)
 returns : tie.Need-returns Inv-loop μ-loop
 returns c =
     let args = c .before .before .before .before .before .args in
-    sym (below-not (λ k. shutterOk (shutterAt (args .t .now) (args .g * GROUP + k))) GROUP (c .before .before .before .loop .n) (omega arith)
+    sym (below-not (λ k. shutterOk (shutterAt (args .t .now) (args .e * EIGHT + k))) EIGHT (c .before .before .before .loop .n) (omega arith)
     (bad (c .before .shutter-ok .ensures) (c .if1 .taken)))
 
 add-n : tie.Need-add-n Inv-loop μ-loop
@@ -51,8 +51,8 @@ loop-again c = (omega arith, rw (add-one _, c .before .before .before .loop .inv
 returns-2 : tie.Need-returns-2 Inv-loop μ-loop
 returns-2 c =
     let args = c .before .before .before .args in
-    let end : c .before .loop .n ≡ GROUP = omega arith in
-    sym (ap (λ (n : ℕ). allBelow n (λ k. shutterOk (shutterAt (args .t .now) (args .g * GROUP + k)))) (sym end) ∙ c .before .loop .inv .1)
+    let end : c .before .loop .n ≡ EIGHT = omega arith in
+    sym (ap (λ (n : ℕ). allBelow n (λ k. shutterOk (shutterAt (args .t .now) (args .e * EIGHT + k)))) (sym end) ∙ c .before .loop .inv .1)
 
 pub each-ok-spec : {M : Type 1} → statement M
 each-ok-spec =

@@ -7,15 +7,15 @@ use borrow.Author.Needs.{needs}
 use Rattle.ground.specs.Records.{differing}
 use Rattle.ground.proofs.Records.{ends-before}
 use Rattle.record.specs.Layout.{RECORDS}
-use Rattle.room.specs.Lent.{seconds, itself}
-use Rattle.room.proofs.SecondsKept.{SecondsOf, second-within, changed-next}
+use Rattle.room.specs.Lent.{secondByte}
+use Rattle.room.proofs.SecondBytes.{SecondBytesOf, second-within, changed-next}
 use Rattle.room.proofs.mains.changed_from.Statement.{statement}
 use Rattle.room.proofs.mains.changed_from.Tie as tie
 
 abbrev Inv-loop : tie.InvT-loop
 Inv-loop t size kept count₀ i₀ count i =
     (i ≤ RECORDS) × (count ≤ i)
-    × ((before : List ℕ) → SecondsOf size RECORDS before kept → count ≡ differing (seconds size) itself i before t)
+    × ((before : List ℕ) → SecondBytesOf size RECORDS before kept → count ≡ differing (secondByte size) i before t)
 
 abbrev μ-loop : tie.MeasureT-loop
 μ-loop t size kept count₀ i₀ count i = RECORDS - i
@@ -70,7 +70,7 @@ returns c =
     λ before kept.
     let a = c .before .before .before .args in
     let all : c .before .loop .i ≡ RECORDS = omega arith in
-    c .before .loop .inv .2 before kept ∙ ap (λ (n : ℕ). differing (seconds (a .size)) itself n before (a .t .now)) all
+    c .before .loop .inv .2 before kept ∙ ap (λ (n : ℕ). differing (secondByte (a .size)) n before (a .t .now)) all
 
 pub changed-from-spec : {M : Type 1} → statement M
 changed-from-spec =

@@ -7,7 +7,7 @@ use Rattle.ground.proofs.Causes.{bad, fine}
 use Rattle.room.specs.Rooms.{roomOf}
 use Rattle.room.specs.declared.Changes.{Changes}
 use Rattle.room.proofs.ApplyLaws.{modules-size, shutters-size, unchanged}
-use Rattle.room.proofs.SecondsKept.{levels-are, openings-are}
+use Rattle.room.proofs.SecondBytes.{levels-are, openings-are}
 use Rattle.room.proofs.MainsLaws.{turn, given-some, remains-quiet, remains-valid}
 use borrow.Author.Needs.{needs}
 use Rattle.room.proofs.mains.heed_all.Statement.{statement}
@@ -56,13 +56,13 @@ returns c =
       sym (unchanged room),
     )
 
-seconds-in-requires : tie.Need-seconds-in-requires
-seconds-in-requires c κs =
+second-bytes-requires : tie.Need-second-bytes-requires
+second-bytes-requires c κs =
     let start = c .before .before .before .before .before .before .before .before .before .before .before .before .before .before in
     (omega (arith, modules-size _ (start .pre .rules)), omega arith, omega arith)
 
-seconds-in-requires-2 : tie.Need-seconds-in-requires-2
-seconds-in-requires-2 c κs =
+second-bytes-requires-2 : tie.Need-second-bytes-requires-2
+second-bytes-requires-2 c κs =
     let start = c .before .before .before .before .before .before .before .before .before .before .before .before .before .before .before .before in
     (omega (arith, shutters-size _ (start .pre .rules)), omega arith, omega arith)
 
@@ -164,8 +164,8 @@ returns-2 c =
     let more = given-some (a .halves .now) (taken .toward) (fine (tested .before .gave .ensures) (tested .if1 .left)) in
     let did = answered .answer-stretch .ensures in
     let turned = taken .after more _ _ (did .0) (did .1) in
-    let levels = c .before .before .changed-from .ensures (a .table .now) (kept .before .before .seconds-in .ensures) in
-    let openings = c .changed-from2 .ensures (a .shutters .now) (kept .seconds-in2 .ensures) in (
+    let levels = c .before .before .changed-from .ensures (a .table .now) (kept .before .before .second-bytes .ensures) in
+    let openings = c .changed-from2 .ensures (a .shutters .now) (kept .second-bytes2 .ensures) in (
       heeded .heed .ensures ∙ turned .same,
       ap₂ {C = Changes} (λ (x y : ℕ). record { levels = x; openings = y }) (levels ∙ levels-are _ _) (openings ∙ openings-are _ _),
     )
@@ -181,8 +181,8 @@ heed-all-spec =
     same-length
     same-length-2
     returns
-    seconds-in-requires
-    seconds-in-requires-2
+    second-bytes-requires
+    second-bytes-requires-2
     answer-stretch-requires
     heed-requires
     changed-from-requires

@@ -1,0 +1,58 @@
+-- `units_ok` meets its contract: each record of a house whose bytes are zeros keeps the rules.
+use mathlib.Core.Path.{sym, _∙_}
+use Prim.Native.Nat.{_+_, _*_}
+use native.Mathlib.Omega.{arith}
+use Rattle.ground.proofs.Records.{zeros-each}
+use Rattle.record.specs.Layout.{RECORD-BYTES, UNITS, modules}
+use Rattle.record.specs.ModuleTable.{recordOk}
+use Rattle.module_table.proofs.TableLaws.{modules-laid, zeros-ok}
+use borrow.Author.Needs.{needs}
+use Rattle.module_table.proofs.units_ok.Statement.{statement}
+use Rattle.module_table.proofs.units_ok.Tie as tie
+
+mul-from : tie.Need-mul-from
+mul-from c = search needs
+
+add-zeros : tie.Need-add-zeros
+add-zeros c = search needs
+
+sub-zeros : tie.Need-sub-zeros
+sub-zeros c = search needs
+
+part-zeros-start : tie.Need-part-zeros-start
+part-zeros-start c = search needs
+
+part-zeros-end : tie.Need-part-zeros-end
+part-zeros-end c = search needs
+
+zeros-requires : tie.Need-zeros-requires
+zeros-requires c κs = search needs
+
+returns : tie.Need-returns
+returns c =
+    let args = c .before .before .before .before .args in
+    let from = args .house * (UNITS * RECORD-BYTES) in
+    let none = sym (c .before .zeros .ensures) ∙ c .if1 .taken in
+    sym
+    (zeros-each modules modules-laid recordOk zeros-ok (args .t .now) (args .house * UNITS) UNITS from (from + UNITS * RECORD-BYTES) (omega arith)
+    (omega arith) (omega arith) none)
+
+each-ok-requires : tie.Need-each-ok-requires
+each-ok-requires c κs = search needs
+
+returns-2 : tie.Need-returns-2
+returns-2 c = search needs
+
+pub units-ok-spec : {M : Type 1} → statement M
+units-ok-spec =
+    tie.close
+    (tie.spec
+    mul-from
+    add-zeros
+    sub-zeros
+    part-zeros-start
+    part-zeros-end
+    zeros-requires
+    returns
+    each-ok-requires
+    returns-2)
