@@ -56,7 +56,7 @@ fn replaced(room: Room, at: u8, value: u8) -> Room {
 
 // 04 and 0B reach a house, whatever unit and data they name; 05 and 0C every house.
 fn whole_houses() {
-    print(b"Shutters: houses opened and closed\n");
+    print(b"Shutters: a morning, and houses opened and closed\n");
     let r = extended(shuttered(), 0, 0x04, 0x00);
     let r = extended_at(r, 15, 15, 0x05, 0x00);
     let r = extended(r, 0, 0x0B, 0x00);
