@@ -30,8 +30,8 @@ extern "C" {
 
 /* The version of this header and of the library: major * 10,000 + minor * 100 + patch. While the
  * major number is 0, a minor version may change what is exported. */
-#define X10_VERSION 1100
-#define X10_VERSION_TEXT "0.11.0"
+#define X10_VERSION 1200
+#define X10_VERSION_TEXT "0.12.0"
 
 /* Numbers given back: 0, those of refusals, and of the two BROKEN events. */
 enum x10_result {
@@ -132,7 +132,7 @@ static inline const char *x10_function_name(uint8_t code)
 
 #define X10_MESSAGE_BYTES 5
 #define X10_LONGEST_BURST 124
-#define X10_RECEIVER_BYTES 11
+#define X10_RECEIVER_BYTES 13
 #define X10_STATION_BYTES 8
 #define X10_EVENT_BYTES 6
 #define X10_ANSWER_BYTES 8
@@ -145,12 +145,14 @@ static inline const char *x10_function_name(uint8_t code)
 uint64_t x10_burst(uint8_t kind, uint8_t house, uint8_t third, uint8_t data, uint8_t command,
                    uint8_t *buf, size_t len);
 
-/* A receiver is 11 bytes: the last six half-cycles as one number; the place in its frame of the
- * half-cycle to come, 0 while hunting; the bits read so far in four bytes, highest first; and the
- * message given before, five zeros where there is none. docs/receiver.md says which values they take.
+/* A receiver is 13 bytes: the last six half-cycles as one number; the place in its frame of the
+ * half-cycle to come, 0 while hunting; the bits read so far in four bytes, highest first; the message
+ * given before, five zeros where there is none; where the next half-cycle stands counted from the start
+ * of a frame that broke, and the place at which a start is then waited for, 0 and 0 where none is.
+ * docs/receiver.md says which values they take.
  *
  * Makes these bytes a receiver that hunts and has received nothing. Count 0. Refusal: 6, where len is
- * not 11. */
+ * not 13. */
 uint64_t x10_receiver_fresh(uint8_t *state, size_t len);
 
 /* The first byte of an event. It is 5 for a half-cycle that is not 0 or 1, which leaves the receiver
@@ -159,7 +161,7 @@ enum x10_event { X10_NOTHING = 0, X10_GIVEN = 1, X10_REPEAT = 2 };
 
 /* Hands the receiver n half-cycles, one after the other. Event i is the six bytes at events + 6 * i:
  * what happened, and the message given, five zeros where there is none. Bytes beyond 6 * n stay.
- * Count: n. Refusals: 6, where state_len is not 11, or the bytes are no receiver or an impossible one
+ * Count: n. Refusals: 6, where state_len is not 13, or the bytes are no receiver or an impossible one
  * (docs/receiver.md); 9, where events_len is below 6 * n. A half-cycle that is not 0 or 1 is no refusal
  * of the call: its event is 5, the receiver stays, and the next half-cycle follows. */
 uint64_t x10_receive(uint8_t *state, size_t state_len, const uint8_t *halves, size_t n,

@@ -1,5 +1,6 @@
-// Writes half-cycles to be timed on standard output: `input bursts COUNT`, bursts of all three kinds of
-// message with three clear half-cycles before each, or `input clear COUNT`, a clear line.
+// Writes half-cycles to be timed on standard output: `input bursts COUNT`, bursts of all three
+// kinds of message with three clear half-cycles before each; `input damaged COUNT`, the same with
+// one half-cycle of each burst inverted; or `input clear COUNT`, a clear line.
 use std::io::Write;
 
 const CODES: [u32; 16] = [6, 14, 2, 10, 1, 9, 5, 13, 7, 15, 3, 11, 0, 8, 4, 12];
@@ -44,8 +45,13 @@ fn main() {
             ),
         };
         out.extend_from_slice(b"000");
+        let burst = out.len();
         frame(&mut out, word, bits);
         frame(&mut out, word, bits);
+        if words[1] == "damaged" {
+            let place = burst + draws.below((out.len() - burst) as u32) as usize;
+            out[place] ^= 1;
+        }
     }
     std::io::stdout().write_all(&out[..count]).unwrap();
 }

@@ -1,8 +1,10 @@
-// The trace program in plain Rust, as fast as plain safe Rust reasonably is. Written from the scope paper:
-// the receiver here has a state of its own that cannot be wrong, so nothing is judged.
+// The trace program in plain Rust, as fast as plain safe Rust reasonably is. Written from the scope
+// paper and request A2: the receiver here has a state of its own that cannot be wrong, so nothing
+// is judged.
 //
-// Half-cycles are read one by one (`Receiver::step`). Where whole stretches of the input are what they
-// mostly are, a clear line, a start or the pairs of a frame, they are taken at once (`Receiver::hear`).
+// Half-cycles are read one by one (`Receiver::step`). Where whole stretches of the input are what
+// they mostly are, a clear line, a start, the pairs of a frame or what is left of one that broke,
+// they are taken at once (`Receiver::hear`).
 use std::fs::File;
 use std::io::{self, ErrorKind, Read, Write};
 use std::os::fd::AsFd;
@@ -71,6 +73,9 @@ const FIRST_PAIR: u8 = 5;
 const STANDARD_END: u8 = 22;
 const EXTENDED_END: u8 = 62;
 
+/// A count of half-cycles that is not reached.
+const NEVER: u64 = u64::MAX;
+
 /// What the input could not be read beyond.
 struct BadByte;
 
@@ -84,18 +89,26 @@ struct Receiver {
     bits: Word,
     /// The frame just given, whose repeat may follow.
     given: Option<Word>,
+    /// The count at which a start that is waited for after a break is complete; NEVER where none
+    /// is.
+    due: u64,
+    /// The same of the later place, which is waited for where the first holds no start.
+    due_else: u64,
 }
 
 impl Receiver {
-    const FRESH: Receiver = Receiver { count: 0, past: 0xFF, at: HUNTING, bits: 0, given: None };
+    const FRESH: Receiver =
+        Receiver { count: 0, past: 0xFF, at: HUNTING, bits: 0, given: None, due: NEVER, due_else: NEVER };
 
     /// Hears all bytes and puts the lines of their events out, also that of a bad byte.
     fn hear(&mut self, mut bytes: &[u8], out: &mut Vec<u8>) -> Result<(), BadByte> {
         while let [byte, after @ ..] = bytes {
             let quick = match self.at {
-                HUNTING => self.hunt(bytes),
+                HUNTING => self.hunt(bytes).or_else(|| self.pass(bytes)),
                 AWAITED => self.repeated_start(bytes),
-                FIRST_PAIR => self.frame(bytes, out),
+                FIRST_PAIR => self.frame(bytes, out).or_else(|| self.four_pairs(bytes)),
+                // No frame is complete within four pairs from here.
+                13 | 23 | 31 | 39 | 47 => self.four_pairs(bytes),
                 _ => None,
             };
             if let Some(after) = quick {
@@ -119,14 +132,11 @@ impl Receiver {
     /// Passes over clear half-cycles and a start after them: what stands then.
     fn hunt<'a>(&mut self, bytes: &'a [u8]) -> Option<&'a [u8]> {
         // A 0 ends a start only after a 1.
-        if self.past & 1 == 1 {
-            return None;
-        }
-        let clear = clear(bytes);
+        let clear = if self.past & 1 == 1 { 0 } else { clear(&bytes[..self.before_place(bytes.len())]) };
         let rest = &bytes[clear..];
         self.count += clear as u64;
         self.past = if clear < 8 { self.past << clear } else { 0 };
-        if self.past & 0b111 == 0 {
+        if self.past & 0b111 == 0 || self.count + 4 == self.due {
             if let Some(rest) = rest.strip_prefix(b"1110") {
                 self.heard(4, 0b1110);
                 self.begin(None);
@@ -134,6 +144,30 @@ impl Receiver {
             }
         }
         (clear > 0).then_some(rest)
+    }
+
+    /// Passes over eight half-cycles, or fewer before the place of a start that is waited for,
+    /// where no start is complete among them.
+    fn pass<'a>(&mut self, bytes: &'a [u8]) -> Option<&'a [u8]> {
+        let (&eight, _) = bytes.split_first_chunk::<8>()?;
+        let n = self.before_place(8);
+        let halves = u16::from(eight_halves(eight)?) >> (8 - n);
+        let all = u16::from(self.past) << n | halves;
+        // In each bit, whether 0 0 0 1 1 1 0 is complete with it.
+        let starts = !all & all >> 1 & all >> 2 & all >> 3 & !(all >> 4) & !(all >> 5) & !(all >> 6);
+        if n == 0 || starts & ((1 << n) - 1) != 0 {
+            return None;
+        }
+        self.count += n as u64;
+        self.past = all as u8;
+        Some(&bytes[n..])
+    }
+
+    /// How many of so many half-cycles come before the place of a start that is waited for; none
+    /// from the place on.
+    fn before_place(&self, halves: usize) -> usize {
+        let before = (self.due - 4).saturating_sub(self.count);
+        usize::try_from(before).map_or(halves, |before| before.min(halves))
     }
 
     /// The four half-cycles 1 1 1 0 that are awaited after a frame.
@@ -158,6 +192,16 @@ impl Receiver {
         Some(rest)
     }
 
+    /// Four pairs of a frame that breaks later or does not stand whole in these bytes.
+    fn four_pairs<'a>(&mut self, bytes: &'a [u8]) -> Option<&'a [u8]> {
+        let (eight, rest) = bytes.split_first_chunk::<8>()?;
+        let four = pairs(eight)?;
+        self.heard(8, HALVES[four as usize]);
+        self.bits = self.bits << 4 | four;
+        self.at += 8;
+        Some(rest)
+    }
+
     /// Counts half-cycles, with the last of them.
     fn heard(&mut self, halves: usize, last: u8) {
         self.count += halves as u64;
@@ -169,7 +213,7 @@ impl Receiver {
         self.heard(1, half);
         match self.at {
             HUNTING => {
-                if self.past & 0x7F == 0b0001110 {
+                if self.past & 0x7F == 0b0001110 || self.start_due() {
                     self.begin(None);
                 }
             }
@@ -180,6 +224,7 @@ impl Receiver {
             at => {
                 let (first, second) = (self.past >> 1 & 1, self.past & 1);
                 if first == second {
+                    self.wait(at);
                     return self.broken(b"\tBROKEN\t10\n", out);
                 }
                 self.bits = self.bits << 1 | Word::from(first);
@@ -198,6 +243,30 @@ impl Receiver {
         self.at = FIRST_PAIR;
         self.bits = 0;
         self.given = given;
+        self.due = NEVER;
+        self.due_else = NEVER;
+    }
+
+    /// A pair broke at this place of its frame. The start of a second copy is waited for at 22 and,
+    /// where that holds none, at 62; after the ninth pair at 62 only.
+    fn wait(&mut self, at: u8) {
+        let start = self.count - u64::from(at);
+        let (after_standard, after_extended) = (start + 22 + 4, start + 62 + 4);
+        (self.due, self.due_else) = match at {
+            ..=STANDARD_END => (after_standard, after_extended),
+            _ => (after_extended, NEVER),
+        };
+    }
+
+    /// Whether a start that is waited for is complete. Where none stands there, the later place is
+    /// next.
+    fn start_due(&mut self) -> bool {
+        if self.count != self.due {
+            return false;
+        }
+        self.due = self.due_else;
+        self.due_else = NEVER;
+        self.past & 0xF == 0b1110
     }
 
     fn broken(&mut self, line: &[u8], out: &mut Vec<u8>) {
@@ -269,6 +338,13 @@ fn pairs<const N: usize>(bytes: &[u8; N]) -> Option<Word> {
             };
     }
     Some(bits)
+}
+
+/// Eight half-cycles, the first highest. None where a byte is not 0 or 1.
+fn eight_halves(eight: [u8; 8]) -> Option<u8> {
+    let halves = u64::from_be_bytes(eight) ^ u64::from_be_bytes([b'0'; 8]);
+    // The lowest bits of the bytes come together in the highest byte.
+    (halves & !0x0101_0101_0101_0101 == 0).then(|| (halves.wrapping_mul(0x0102_0408_1020_4080) >> 56) as u8)
 }
 
 fn put_number(out: &mut Vec<u8>, number: u64) {
@@ -443,13 +519,104 @@ mod tests {
         assert_eq!(lines(&format!("000{on}00{A1}")), told);
     }
 
+    /// The frame of these bits.
+    fn frame(bits: &str) -> String {
+        let pairs = bits.chars().map(|bit| if bit == '1' { "10" } else { "01" });
+        String::from("1110") + &pairs.collect::<String>()
+    }
+
+    /// B2, data A5, command 31: the codes of B and 2 are 14.
+    const B2: &str = "11100111111101010010100110001";
+
+    /// The same half-cycles, one of them inverted.
+    fn inverted(halves: &str, place: usize) -> String {
+        let mut bytes = halves.as_bytes().to_vec();
+        bytes[place] ^= 1;
+        String::from_utf8(bytes).unwrap()
+    }
+
+    #[test]
+    fn a_second_copy_after_a_broken_pair() {
+        let extended = frame(B2);
+        for (copy, last, told) in
+            [(A1, 22, "47\tADDRESS\tA\t1\n"), (&extended, 62, "127\tEXTENDED\tB\t2\tA5\t31\n")]
+        {
+            for place in 4..last {
+                let damaged = inverted(copy, place);
+                // The break comes with the second of the pair, which has an odd place.
+                let told = format!("{}\tBROKEN\t10\n{told}", 3 + (place | 1) + 1);
+                assert_eq!(lines(&format!("000{damaged}{copy}")), told);
+                let parted = format!("000{damaged}{copy}").replace("1110", "1\n1\r10");
+                assert_eq!(lines(&parted), told);
+                let repeat = 3 + 3 * last;
+                assert_eq!(lines(&format!("000{damaged}{copy}{copy}")), format!("{told}{repeat}\tREPEAT\n"));
+            }
+        }
+    }
+
+    #[test]
+    fn places_at_which_a_start_is_waited_for() {
+        let damaged = inverted(A1, 21);
+        let broken = "25\tBROKEN\t10\n";
+        for ones in 0..60 {
+            let line = format!("000{damaged}{}{A1}", "1".repeat(ones));
+            // At s + 22 and s + 62, and nowhere else.
+            let told = match ones {
+                0 => format!("{broken}47\tADDRESS\tA\t1\n"),
+                40 => format!("{broken}87\tADDRESS\tA\t1\n"),
+                _ => broken.to_string(),
+            };
+            assert_eq!(lines(&line), told, "{ones}");
+        }
+        // A frame at s + 22 that breaks puts s + 62 off.
+        let line = format!("000{damaged}{damaged}{}{A1}", "1".repeat(18));
+        assert_eq!(lines(&line), "25\tBROKEN\t10\n47\tBROKEN\t10\n");
+        // After the ninth pair the place is s + 62: a start at s + 22 breaks the tenth, and is
+        // none.
+        let line = format!("000{}{A1}{}", &frame(B2)[..22], "1".repeat(60));
+        assert_eq!(lines(&line), "27\tBROKEN\t10\n");
+        // An unsupported code starts no waiting.
+        let unsupported = frame("011010101");
+        let line = format!("000{unsupported}{A1}{}{A1}", "1".repeat(18));
+        assert_eq!(lines(&line), "25\tBROKEN\t11\n");
+    }
+
+    #[test]
+    fn the_hunt_runs_on_while_a_start_is_waited_for() {
+        let damaged = &inverted(A1, 4)[..6];
+        let line = format!("000{damaged}000{A1}{A1}");
+        assert_eq!(lines(&line), "9\tBROKEN\t10\n34\tADDRESS\tA\t1\n56\tREPEAT\n");
+        // The same with clear line up to either place, and beyond.
+        for clear in 3..80 {
+            let line = format!("000{damaged}{}{A1}", "0".repeat(clear));
+            assert_eq!(lines(&line), format!("9\tBROKEN\t10\n{}\tADDRESS\tA\t1\n", 31 + clear));
+        }
+    }
+
+    #[test]
+    fn damaged_bursts_in_pieces() {
+        let mut drawn = 1u64;
+        let mut below = |n: usize| {
+            drawn = drawn.wrapping_mul(6364136223846793005).wrapping_add(1442695040888963407);
+            (drawn >> 33) as usize % n
+        };
+        let extended = frame(B2);
+        for _ in 0..300 {
+            let mut line = String::from("000");
+            while line.len() < 1000 {
+                let copy = [A1, M13, &extended][below(3)];
+                let place = below(2 * copy.len());
+                line += &inverted(&copy.repeat(2), place);
+                line += &"0".repeat(below(5));
+            }
+            // `lines` compares the pieces, of which those of one byte take no stretch at once.
+            assert!(lines(&line).contains("BROKEN"), "{line}");
+        }
+    }
+
     #[test]
     fn an_extended_message() {
-        // B2, data A5, command 31: the codes of B and 2 are 14.
-        let mut frame = String::from("1110");
-        for bit in "11100111111101010010100110001".chars() {
-            frame += if bit == '1' { "10" } else { "01" };
-        }
+        let frame = frame(B2);
         let told = "165\tEXTENDED\tB\t2\tA5\t31\n227\tREPEAT\n";
         assert_eq!(lines(&format!("{}{frame}{frame}", "0".repeat(103))), told);
     }

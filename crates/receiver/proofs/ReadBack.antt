@@ -1,15 +1,18 @@
--- What is written is read back: a receiver's eleven bytes, an event's six; and runs in two parts.
+-- What is written is read back: a receiver's thirteen bytes, an event's six; and runs in two parts.
 --
 --     receivers-read-back, stays-receiver      ReceiversReadBack, StaysReceiver
---     held-valid, held-length, run-valid       bytes that hold a receiver are eleven, it is valid, and so after any half-cycles
+--     places-read-back                         PlacesReadBack
+--     held-valid, held-length, run-valid       bytes that hold a receiver are thirteen, it is valid, and so after any half-cycles
 --     events-read-back                         EventsReadBack
 --     two-parts                                TwoParts
-use mathlib.Core.Path.{_≡_, refl, sym, ap, _∙_}
-use mathlib.Core.Bool.{Bool, true, false, false≢true, _||_}
+use mathlib.Core.Logic.{⊎-elim}
+use mathlib.Core.Path.{_≡_, refl, sym, ap, ap₂, _∙_}
+use mathlib.Core.Bool.{Bool, true, false, false≢true, _&&_, _||_, and-eq-true-iff}
 use mathlib.Core.List.{List, [], _∷_, _++_}
-use Prim.Native.Nat.{ℕ, _+_, _*_, _/_, _%_, _^_}
+use Prim.Native.Nat.{ℕ, _+_, _*_, _/_, _%_, _^_, _≤_, _<_}
+use native.Mathlib.Decide.{decLe, ℕ-discrete}
 use native.Mathlib.Omega.{arith}
-use borrow.Author.Tests.{eq-eqb, eqb-true}
+use borrow.Author.Tests.{eq-eqb, ne-eqb, eqb-true, le-leb, lt-leb, leb-true}
 use lib.Dec.{eqb, leb}
 use lib.ListN.{length, getD, drop}
 use Rattle.ground.specs.Choice.{pick}
@@ -17,19 +20,21 @@ use Rattle.ground.specs.Refusals.{judged, numberGiven}
 use Rattle.ground.specs.declared.Refusal.the-variants as refusal
 use Rattle.message.specs.Messages.{messageOk}
 use Rattle.message.specs.declared.Message.{Message}
-use Rattle.receiver.specs.Receivers.{freshReceiver, givenOk, receiverOk, eventNumber, stepOf, equalPair, unsupportedCode, brokenNumber}
+use Rattle.message.specs.declared.Message.the-variants as m
+use Rattle.receiver.specs.Receivers.{freshReceiver, near, far, waitingOk, givenOk, receiverOk}
+use Rattle.receiver.specs.Receivers.{eventNumber, stepOf, equalPair, unsupportedCode, brokenNumber}
 use Rattle.receiver.specs.Hearing.{eventsOf, receiverAfter}
 use Rattle.receiver.specs.declared.Given.{Given}
 use Rattle.receiver.specs.declared.Given.the-variants.{No, Yes}
 use Rattle.receiver.specs.declared.Receiver.{Receiver}
 use Rattle.receiver.specs.declared.Event.{Event}
 use Rattle.receiver.specs.declared.Event.the-variants.{Nothing, Message as Gives, Repeat, BrokenPair, BrokenUnsupported, Refused as Stays}
-use Rattle.receiver.proofs.ReceiverLaws.{valid-parts, fresh-is-valid, stays-valid, gives-valid, step-number}
+use Rattle.receiver.proofs.ReceiverLaws.{placeOk, valid-parts, place-waits, waits-range, fresh-is-valid, stays-valid, gives-valid, step-number}
 use Rattle.wire.specs.Messages.{messageIn}
-use Rattle.receiver.specs.Bytes.{givenFrom, fromFour, takenReceiver, receiverWith, receiverIn, isReceiver}
+use Rattle.receiver.specs.Bytes.{frameByte, sinceByte, targetByte, placeFrom, givenFrom, fromFour, takenReceiver, receiverWith, receiverIn, isReceiver}
 use Rattle.receiver.specs.Bytes.{holdsReceiver, receiverBytes, heldCauses, receiverReport, putAfter, freshAfter}
 use Rattle.receiver.specs.Bytes.{eventCode, eventBytes, eventsBy, eventsHeard, bytesBy}
-use Rattle.receiver.specs.Bytes.{bytesAfter, ReceiversReadBack, StaysReceiver, EventsReadBack, TwoParts}
+use Rattle.receiver.specs.Bytes.{bytesAfter, ReceiversReadBack, PlacesReadBack, StaysReceiver, EventsReadBack, TwoParts}
 use Rattle.wire.specs.declared.MessageRead.{MessageRead}
 use Rattle.wire.specs.declared.MessageRead.the-variants.{Message as Says, Refused as NoMessage}
 use Rattle.receiver.specs.declared.lent.GivenRead.{GivenRead}
@@ -48,6 +53,70 @@ four-read-back b =
     let lowest : b / 2 ^ 8 * 256 + b % 256 ≡ b = omega arith in
     rw (second, third, lowest)
 
+-- a place from its three bytes
+place-read-back : (at bits : ℕ) → placeOk at bits ≡ true → placeFrom (frameByte at) (sinceByte at) (targetByte at) ≡ at
+unfolding placeFrom
+place-read-back at bits t = go (decLe at 62)
+  where
+    go : Dec (at ≤ 62) → placeFrom (frameByte at) (sinceByte at) (targetByte at) ≡ at
+    go (yes low) = rw (le-leb at 62 low, le-leb at 62 low) refl
+    go (no n) =
+        let over : 62 < at = omega arith in
+        ⊎-elim
+        (λ x. let low : at % 64 ≤ 25 = omega arith in rw (lt-leb at 62 over, le-leb at 127 (omega arith), le-leb (at % 64) 25 low) (omega arith))
+        (λ x. let low : at % 128 ≤ 65 = omega arith in rw (lt-leb at 62 over, lt-leb at 127 (omega arith), le-leb (at % 128) 65 low) (omega arith))
+        (waits-range at (place-waits at bits t over))
+
+-- and back
+module _ (frame since target : ℕ) where
+  abbrev Back : ℕ → Type 0
+  Back at = (leb at 62 || waitingOk at) ≡ true → (frameByte at ≡ frame) × (sinceByte at ≡ since) × (targetByte at ≡ target)
+
+  nowhere : Back 255
+  nowhere t = absurd (false≢true t)
+
+  none-back : target ≡ 0 → (b : Bool) → (eqb since 0 && leb frame 62) ≡ b → Back (pick b frame 255)
+  none-back e true t u =
+      let p = and-eq-true-iff (eqb since 0) (leb frame 62) .0 t in
+      let z = eqb-true since 0 (p .0) in
+      (rw (p .1) refl, rw (p .1) (sym z), rw (p .1) (sym e))
+  none-back e false t u = nowhere u
+
+  -- where `at` says k and the place, so do its bytes
+  waited-back : (at most : ℕ) (b : Bool) → (eqb frame 0 && leb since most) ≡ b
+      → (since ≤ most → (leb at 62 ≡ false) × (sinceByte at ≡ since) × (targetByte at ≡ target)) → Back (pick b at 255)
+  waited-back at most true t says u =
+      let p = and-eq-true-iff (eqb frame 0) (leb since most) .0 t in
+      let bytes = says (leb-true since most (p .1)) in
+      (rw (bytes .0) (sym (eqb-true frame 0 (p .0))), bytes .1, bytes .2)
+  waited-back at most false t says u = nowhere u
+
+  near-says : target ≡ 22 → since ≤ 25 → let at = near since in (leb at 62 ≡ false) × (sinceByte at ≡ since) × (targetByte at ≡ target)
+  near-says e low =
+      let over = lt-leb (near since) 62 (omega arith) in
+      let under = le-leb (near since) 127 (omega arith) in
+      (over, rw (over, under) (omega arith), rw (over, under) (sym e))
+
+  far-says : target ≡ 62 → since ≤ 65 → let at = far since in (leb at 62 ≡ false) × (sinceByte at ≡ since) × (targetByte at ≡ target)
+  far-says e low =
+      let over = lt-leb (far since) 62 (omega arith) in
+      let beyond = lt-leb (far since) 127 (omega arith) in
+      (over, rw (over, beyond) (omega arith), rw (over, beyond) (sym e))
+
+  bytes-back : Back (placeFrom frame since target)
+  unfolding placeFrom
+  bytes-back = go (ℕ-discrete target 0) (ℕ-discrete target 22) (ℕ-discrete target 62)
+    where
+      go : Dec (target ≡ 0) → Dec (target ≡ 22) → Dec (target ≡ 62) → Back (placeFrom frame since target)
+      go (yes e) q s = rw (eq-eqb target 0 e) (none-back e (eqb since 0 && leb frame 62) refl)
+      go (no a) (yes e) s = rw (ne-eqb target 0 a, eq-eqb target 22 e) (waited-back (near since) 25 (eqb frame 0 && leb since 25) refl (near-says e))
+      go (no a) (no b) (yes e) =
+          rw (ne-eqb target 0 a, ne-eqb target 22 b, eq-eqb target 62 e) (waited-back (far since) 65 (eqb frame 0 && leb since 65) refl (far-says e))
+      go (no a) (no b) (no c) = rw (ne-eqb target 0 a, ne-eqb target 22 b, ne-eqb target 62 c) nowhere
+
+pub places-read-back : PlacesReadBack
+places-read-back = record { place-of-bytes = place-read-back; bytes-of-place = bytes-back }
+
 taken-valid : (r : Receiver) → receiverOk r ≡ true → takenReceiver r ≡ Is r
 unfolding takenReceiver judged
 taken-valid r ok = rw ok
@@ -56,16 +125,25 @@ pub receivers-read-back : ReceiversReadBack
 unfolding receiverIn receiverBytes givenFrom judged
 receivers-read-back r ok = go (r .given) ok (valid-parts r ok .1)
   where
-    made : ℕ → Given → Receiver
-    made n g = record { past = r .past; at = r .at; bits = n; given = g }
+    made : ℕ → ℕ → Given → Receiver
+    made a n g = record { past = r .past; at = a; bits = n; given = g }
 
-    same : (g : Given) → receiverOk (made (r .bits) g) ≡ true
-        → takenReceiver (made (fromFour (r .bits / 2 ^ 24) (r .bits / 2 ^ 16 % 256) (r .bits / 2 ^ 8 % 256) (r .bits % 256)) g) ≡ Is (made (r .bits) g)
-    same g t = ap (λ (n : ℕ). takenReceiver (made n g)) (four-read-back (r .bits)) ∙ taken-valid (made (r .bits) g) t
+    held : Given → Receiver
+    held g = made (r .at) (r .bits) g
 
-    go : (g : Given) → receiverOk (made (r .bits) g) ≡ true → givenOk g ≡ true → receiverIn (receiverBytes (made (r .bits) g)) ≡ Is (made (r .bits) g)
+    same : (g : Given) → receiverOk (held g) ≡ true
+        → takenReceiver (made (placeFrom (frameByte (r .at)) (sinceByte (r .at)) (targetByte (r .at)))
+        (fromFour (r .bits / 2 ^ 24) (r .bits / 2 ^ 16 % 256) (r .bits / 2 ^ 8 % 256) (r .bits % 256)) g)
+        ≡ Is (held g)
+    same g t =
+        ap₂ (λ (a n : ℕ). takenReceiver (made a n g)) (place-read-back (r .at) (r .bits) (valid-parts r ok .0)) (four-read-back (r .bits))
+        ∙ taken-valid (held g) t
+
+    go : (g : Given) → receiverOk (held g) ≡ true → givenOk g ≡ true → receiverIn (receiverBytes (held g)) ≡ Is (held g)
     go No t v = rw (kept-read-back .none) (same No t)
-    go (Yes m) t v = rw (kept-read-back .message m v, message-length m) (same (Yes m) t)
+    go (Yes (m.Address h u)) t v = rw (kept-read-back .message (m.Address h u) v) (same (Yes (m.Address h u)) t)
+    go (Yes (m.Function h f)) t v = rw (kept-read-back .message (m.Function h f) v) (same (Yes (m.Function h f)) t)
+    go (Yes (m.Extended h u d c)) t v = rw (kept-read-back .message (m.Extended h u d c) v) (same (Yes (m.Extended h u d c)) t)
 
 -- ---- bytes that hold a receiver
 
@@ -79,7 +157,7 @@ taken-back q r e = go (receiverOk q) refl e
 
 pub held-valid : (s : List ℕ) (r : Receiver) → receiverIn s ≡ Is r → receiverOk r ≡ true
 unfolding receiverIn judged
-held-valid s r e = whole (eqb (length s) 11) (givenFrom (getD s 6 0) (getD s 7 0) (getD s 8 0) (getD s 9 0) (getD s 10 0)) e
+held-valid s r e = whole (eqb (length s) 13) (givenFrom (getD s 6 0) (getD s 7 0) (getD s 8 0) (getD s 9 0) (getD s 10 0)) e
   where
     whole : (b : Bool) (g : GivenRead) → pick b (receiverWith s g) (NoReceiver refusal.State) ≡ Is r → receiverOk r ≡ true
     whole true (Was g) e′ = taken-back _ r e′
@@ -93,7 +171,7 @@ unfolding receiverIn takenReceiver judged
 held-number s e = (
   e,
   ap (λ (x : ReceiverRead). receiverReport x .number) e
-      ∙ whole (eqb (length s) 11) (givenFrom (getD s 6 0) (getD s 7 0) (getD s 8 0) (getD s 9 0) (getD s 10 0)),
+      ∙ whole (eqb (length s) 13) (givenFrom (getD s 6 0) (getD s 7 0) (getD s 8 0) (getD s 9 0) (getD s 10 0)),
 )
   where
     number : ReceiverRead → Type 0
@@ -108,9 +186,9 @@ held-number s e = (
     whole true (NoGiven why) = refl
     whole false g = refl
 
-pub held-length : (s : List ℕ) (r : Receiver) → receiverIn s ≡ Is r → length s ≡ 11
+pub held-length : (s : List ℕ) (r : Receiver) → receiverIn s ≡ Is r → length s ≡ 13
 unfolding receiverIn judged
-held-length s r e = eqb-true (length s) 11 (go (eqb (length s) 11) _ e)
+held-length s r e = eqb-true (length s) 13 (go (eqb (length s) 13) _ e)
   where
     go : (b : Bool) (x : ReceiverRead) → pick b x (NoReceiver refusal.State) ≡ Is r → b ≡ true
     go true x e′ = refl
@@ -129,8 +207,8 @@ pub stays-receiver : StaysReceiver
 unfolding putAfter judged bytesAfter
 stays-receiver = record { fresh = begins; after = λ s hs t. goes s hs (receiverIn s) refl t }
   where
-    begins : (s : List ℕ) → length s ≡ 11 → receiverIn (freshAfter s) ≡ Is freshReceiver
-    begins s eleven = rw (eq-eqb (length s) 11 eleven, fresh-is-valid) (receivers-read-back freshReceiver fresh-is-valid)
+    begins : (s : List ℕ) → length s ≡ 13 → receiverIn (freshAfter s) ≡ Is freshReceiver
+    begins s thirteen = rw (eq-eqb (length s) 13 thirteen, fresh-is-valid) (receivers-read-back freshReceiver fresh-is-valid)
 
     goes : (s hs : List ℕ) (x : ReceiverRead) → receiverIn s ≡ x → isReceiver x ≡ true → holdsReceiver (bytesBy x s hs) ≡ true
     goes s hs (Is r) e t = ap isReceiver (run-back s hs r e)

@@ -1,6 +1,6 @@
 -- Laws of lent bytes that a receiver and its events are put into.
 --
---     receiver-placed                      a receiver's eleven bytes
+--     receiver-placed                      a receiver's thirteen bytes
 --     coded                                a code, and five bytes behind it
 --     event-length, events-length          six bytes for each event
 --     Received, refused, short, done       what a run in lent bytes owes at each return
@@ -30,19 +30,24 @@ use Rattle.receiver.specs.declared.Event.the-variants.{Nothing, Message 
 use Rattle.wire.specs.Messages.{listed}
 use Rattle.wire.specs.declared.Five.{Five}
 use Rattle.wire.proofs.MessageLaws.{message-length}
-use Rattle.receiver.specs.Bytes.{receiverIn, isReceiver, holdsReceiver, eventsBy, givenBytes, receiverBytes, eventBytes}
+use Rattle.receiver.specs.Bytes.{frameByte, sinceByte, targetByte, receiverIn, isReceiver, holdsReceiver, eventsBy, givenBytes, receiverBytes, eventBytes}
 use Rattle.receiver.specs.Bytes.{eventsHeard, bytesAfter, receiveCauses, receiveAnswer, stateAfter, eventsAfter, RunsLowest, putCauses, stretchCauses}
 use Rattle.receiver.specs.declared.lent.ReceiverRead.{ReceiverRead}
 use Rattle.receiver.specs.declared.lent.ReceiverRead.the-variants.{Receiver as Is, Refused as NoReceiver}
 
 -- ---- bytes put one by one
 
-pub receiver-placed : (r : Receiver) (f : Five) (s : List ℕ) → length s ≡ 11 → listed f ≡ givenBytes (r .given)
-    → sets s 0 (r .past ∷ r .at ∷ (r .bits / 2 ^ 24) ∷ (r .bits / 2 ^ 16 % 256) ∷ (r .bits / 2 ^ 8 % 256) ∷ (r .bits % 256) ∷ listed f) ≡ receiverBytes r
+pub receiver-placed : (r : Receiver) (f : Five) (s : List ℕ) (x y z : ℕ) → length s ≡ 13 → listed f ≡ givenBytes (r .given)
+    → x ≡ frameByte (r .at) → y ≡ sinceByte (r .at) → z ≡ targetByte (r .at)
+    → sets s 0 (r .past ∷ x ∷ (r .bits / 2 ^ 24) ∷ (r .bits / 2 ^ 16 % 256) ∷ (r .bits / 2 ^ 8 % 256) ∷ (r .bits % 256) ∷ (listed f ++ y ∷ z ∷ []))
+    ≡ receiverBytes r
 unfolding receiverBytes
-receiver-placed r f s eleven e =
-    let front : List ℕ → List ℕ = λ l. r .past ∷ r .at ∷ (r .bits / 2 ^ 24) ∷ (r .bits / 2 ^ 16 % 256) ∷ (r .bits / 2 ^ 8 % 256) ∷ (r .bits % 256) ∷ l in
-    sets-whole (front (listed f)) s (sym eleven) ∙ ap front e
+receiver-placed r f s x y z thirteen e frame since target =
+    let four : List ℕ → List ℕ = λ rest. (r .bits / 2 ^ 24) ∷ (r .bits / 2 ^ 16 % 256) ∷ (r .bits / 2 ^ 8 % 256) ∷ (r .bits % 256) ∷ rest in
+    let last : List ℕ = y ∷ z ∷ [] in
+    sets-whole (r .past ∷ x ∷ four (listed f ++ last)) s (sym thirteen)
+    ∙ ap₂ (λ (at : ℕ) (five : List ℕ). r .past ∷ at ∷ four (five ++ last)) frame e
+    ∙ ap₂ (λ (k place : ℕ). r .past ∷ frameByte (r .at) ∷ four (givenBytes (r .given) ++ k ∷ place ∷ [])) since target
 
 -- a code is stored, and then five bytes behind it
 pub coded : (evs after : List ℕ) (at code : ℕ) (five bytes : List ℕ) → five ≡ bytes → after ≡ sets (set evs at code) (at + 1) five

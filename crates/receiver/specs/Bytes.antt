@@ -1,17 +1,18 @@
--- A receiver as eleven bytes, an event as six, and a run of a receiver in lent bytes over half-cycles that are lent.
+-- A receiver as thirteen bytes, an event as six, and a run of a receiver in lent bytes over half-cycles that are lent.
 use Prim.Native.Nat.{ℕ, _+_, _*_, _/_, _%_, _^_}
 use mathlib.Core.Path.{_≡_}
-use mathlib.Core.Bool.{Bool, true, false}
+use mathlib.Core.Bool.{Bool, true, false, _&&_, _||_}
 use mathlib.Core.List.{List, [], _∷_, _++_, flatMap}
 use lib.Dec.{eqb, leb}
 use lib.ListN.{length, getD, drop}
 use lib.Seq.{sets}
+use Rattle.ground.specs.Choice.{pick}
 use Rattle.ground.specs.Refusals.{Report, reports, refuses, Cause, unless, judged, numberGiven, lowest}
 use Rattle.ground.specs.declared.Refusal.the-variants as refusal
 use Rattle.ground.specs.declared.CountAnswer.{CountAnswer}
 use Rattle.ground.specs.declared.CountAnswer.the-variants.{Done, Refused}
 use Rattle.message.specs.declared.Message.{Message}
-use Rattle.receiver.specs.Receivers.{freshReceiver, receiverOk, eventNumber, stepOf}
+use Rattle.receiver.specs.Receivers.{freshReceiver, near, far, pairsOk, waitingOk, receiverOk, eventNumber, stepOf}
 use Rattle.receiver.specs.Hearing.{eventsOf, receiverAfter, firstGiven, toGiven}
 use Rattle.receiver.specs.declared.Given.{Given}
 use Rattle.receiver.specs.declared.Given.the-variants.{No, Yes}
@@ -28,10 +29,30 @@ use Rattle.receiver.specs.declared.lent.Stretch.{Stretch}
 use Rattle.receiver.specs.declared.lent.ReceiverRead.{ReceiverRead}
 use Rattle.receiver.specs.declared.lent.ReceiverRead.the-variants.{Receiver as Is, Refused as NoReceiver}
 
--- ---- a receiver: past; at; bits in four bytes, highest first; the message given before in five
+-- ---- a receiver: past; the place in its frame, 0 while it hunts; bits in four bytes, highest first; the message given before in five; and of a waiting
+-- k and the place awaited, 0 and 0 where there is none
 
 abbrev pub RECEIVER-BYTES : ℕ
-RECEIVER-BYTES = 11
+RECEIVER-BYTES = 13
+
+abbrev pub frameByte : ℕ → ℕ
+frameByte at = pick (leb at 62) at 0
+
+abbrev pub sinceByte : ℕ → ℕ
+sinceByte at = pick (leb at 62) 0 (pick (leb at 127) (at % 64) (at % 128))
+
+abbrev pub targetByte : ℕ → ℕ
+targetByte at = pick (leb at 62) 0 (pick (leb at 127) 22 62)
+
+-- 255, a place that there is not, where the three say none
+abbrev pub NOWHERE : ℕ
+NOWHERE = 255
+
+unfoldable pub placeFrom : ℕ → ℕ → ℕ → ℕ
+placeFrom at since target =
+    pick (eqb target 0) (pick (eqb since 0 && leb at 62) at NOWHERE)
+    (pick (eqb target 22) (pick (eqb at 0 && leb since (22 + 3)) (near since) NOWHERE)
+    (pick (eqb target 62) (pick (eqb at 0 && leb since (62 + 3)) (far since) NOWHERE) NOWHERE))
 
 -- the message given before, or none, as five bytes keep it
 abbrev pub givenAs : KeptRead → GivenRead
@@ -46,16 +67,22 @@ givenFrom kind house third «data» command = givenAs (keptFrom kind house third
 abbrev pub fromFour : ℕ → ℕ → ℕ → ℕ → ℕ
 fromFour a b c d = ((a * 256 + b) * 256 + c) * 256 + d
 
--- 6: "a kept half-cycle not 0 or 1, more pairs than its frame has, house or unit above 15"
+-- 6: "a kept half-cycle not 0 or 1, more pairs than its frame has, house or unit above 15", and "a receiver whose waiting no break .. leads to"
 unfoldable pub takenReceiver : Receiver → ReceiverRead
 takenReceiver r = judged (unless (receiverOk r) refusal.State ∷ []) (Is r) NoReceiver
 
 abbrev pub receiverWith : List ℕ → GivenRead → ReceiverRead
 receiverWith s (Was g) =
-    takenReceiver (record { past = getD s 0 0; at = getD s 1 0; bits = fromFour (getD s 2 0) (getD s 3 0) (getD s 4 0) (getD s 5 0); given = g })
+    takenReceiver
+    (record {
+      past = getD s 0 0;
+      at = placeFrom (getD s 1 0) (getD s 11 0) (getD s 12 0);
+      bits = fromFour (getD s 2 0) (getD s 3 0) (getD s 4 0) (getD s 5 0);
+      given = g;
+    })
 receiverWith s (NoGiven why) = NoReceiver refusal.State
 
--- the receiver that bytes hold: eleven of them, with a message given before or none, in a state that is not refused
+-- the receiver that bytes hold: thirteen of them, with a message given before or none, in a state that is not refused
 unfoldable pub receiverIn : List ℕ → ReceiverRead
 receiverIn s =
     judged (unless (eqb (length s) RECEIVER-BYTES) refusal.State ∷ [])
@@ -84,13 +111,13 @@ givenBytes (Yes m) = messageBytes m
 
 unfoldable pub receiverBytes : Receiver → List ℕ
 receiverBytes r =
-    r .past ∷ r .at
+    r .past ∷ frameByte (r .at)
     ∷ (r .bits / 2 ^ 24) ∷ (r .bits / 2 ^ 16 % 256) ∷ (r .bits / 2 ^ 8 % 256) ∷ (r .bits % 256)
-    ∷ givenBytes (r .given)
+    ∷ (givenBytes (r .given) ++ sinceByte (r .at) ∷ targetByte (r .at) ∷ [])
 
 -- ---- put into lent bytes
 
--- 6: bytes that are not eleven, or a receiver in a state that there is not
+-- 6: bytes that are not thirteen, or a receiver in a state that there is not
 abbrev pub putCauses : Receiver → List ℕ → List Cause
 putCauses r state = unless (eqb (length state) RECEIVER-BYTES) refusal.State ∷ unless (receiverOk r) refusal.State ∷ []
 
@@ -200,6 +227,12 @@ pub record RunsLowest : Type 0 where
 -- a receiver is read back from its bytes
 abbrev pub ReceiversReadBack : Type 0
 ReceiversReadBack = (r : Receiver) → receiverOk r ≡ true → receiverIn (receiverBytes r) ≡ Is r
+
+-- so are its place's three bytes, and no other three say that place
+pub record PlacesReadBack : Type 0 where
+  pub place-of-bytes : (at bits : ℕ) → (pairsOk at bits || waitingOk at) ≡ true → placeFrom (frameByte at) (sinceByte at) (targetByte at) ≡ at
+  pub bytes-of-place : (frame since target : ℕ) → let at = placeFrom frame since target in
+      (leb at 62 || waitingOk at) ≡ true → (frameByte at ≡ frame) × (sinceByte at ≡ since) × (targetByte at ≡ target)
 
 -- fresh bytes hold a receiver, and bytes that hold one still do after any half-cycles
 pub record StaysReceiver : Type 0 where

@@ -32,7 +32,25 @@ eventNumber (Refused why) = refusalNumber why
 abbrev pub freshReceiver : Receiver
 freshReceiver = record { past = 63; at = 0; bits = 0; given = No }
 
--- ---- the three causes of STATE
+-- ---- the waiting (02, A2)
+
+-- "After BROKEN 10 in a frame whose start began at half-cycle s, a start 1110 at s+22 is also accepted .., and one at s+62": the receiver hunts and waits
+-- for one. Then `at` is `near k` where it waits at s+22 and `far k` where at s+62, and the half-cycle that comes next is s+k. No place of a frame is so
+-- high: the last is 62.
+abbrev pub near : ℕ → ℕ
+near k = 64 + k
+
+abbrev pub far : ℕ → ℕ
+far k = 128 + k
+
+-- the fourth half-cycle of the start that is waited for comes next
+abbrev pub nearEnd : ℕ
+nearEnd = near (22 + 3)
+
+abbrev pub farEnd : ℕ
+farEnd = far (62 + 3)
+
+-- ---- the four causes of STATE
 
 -- "more pairs than its frame has": 29 at most, and more than nine only after code 7 with function bit 1
 unfoldable pub pairsOk : ℕ → ℕ → Bool
@@ -43,9 +61,14 @@ abbrev pub givenOk : Given → Bool
 givenOk No = true
 givenOk (Yes m) = messageOk m
 
--- "a kept half-cycle not 0 or 1", and the two above
+-- "6 also for a receiver whose waiting no break, with calls after it, leads to". A break leads first to k = 6, in the first pair, and beyond the ninth to
+-- k = 24. WaitingsRight of receiver_laws states in 02's words that these and no others are led to.
+abbrev pub waitingOk : ℕ → Bool
+waitingOk at = (leb (near 6) at && leb at nearEnd) || (leb (far 24) at && leb at farEnd)
+
+-- "a kept half-cycle not 0 or 1", and the three above
 unfoldable pub receiverOk : Receiver → Bool
-receiverOk r = leb (r .past) 63 && (pairsOk (r .at) (r .bits) && givenOk (r .given))
+receiverOk r = leb (r .past) 63 && ((pairsOk (r .at) (r .bits) || waitingOk (r .at)) && givenOk (r .given))
 
 -- ---- where a receiver stands after a half-cycle
 
@@ -53,24 +76,44 @@ receiverOk r = leb (r .past) 63 && (pairsOk (r .at) (r .bits) && givenOk (r .giv
 abbrev pub shifted : ℕ → ℕ → ℕ
 shifted past h = past % 32 * 2 + h
 
+-- it hunts, and waits for a start if `at` is not 0
+abbrev pub waiting : ℕ → ℕ → Receiver
+waiting past at = record { past = past; at = at; bits = 0; given = No }
+
 abbrev pub hunting : ℕ → Receiver
-hunting past = record { past = past; at = 0; bits = 0; given = No }
+hunting past = waiting past 0
+
+-- it reads from the first pair of a frame on, no message having been given directly before
+abbrev pub started : ℕ → Receiver
+started past = record { past = past; at = 5; bits = 0; given = No }
 
 abbrev pub says : Event → Receiver → Heard
 says e r = record { event = e; next = r }
 
 -- "Hunting: a frame begins after the last seven half-cycles received were 0 0 0 1 1 1 0, earlier frames' half-cycles included."
-unfoldable pub huntOf : ℕ → ℕ → Heard
-huntOf past h =
+abbrev pub startHunted : ℕ → ℕ → Bool
+startHunted past h = eqb past 7 && eqb h 0
+
+-- "a start 1110 at s+22 is also accepted .., and one at s+62": this half-cycle is the fourth from there, and the last four were 1 1 1 0
+abbrev pub startWaited : ℕ → ℕ → ℕ → Bool
+startWaited past at h = (eqb at nearEnd || eqb at farEnd) && (eqb (past % 8) 7 && eqb h 0)
+
+-- what is waited for where no frame has begun: s+62 "if s+22 did not hold one", after it none
+abbrev pub waitsOn : ℕ → ℕ
+waitsOn at = pick (eqb at nearEnd) (far (22 + 4)) (pick (eqb at 0 || eqb at farEnd) 0 (at + 1))
+
+-- "The ordinary hunt runs on meanwhile; a frame it begins ends the waiting."
+unfoldable pub huntOf : ℕ → ℕ → ℕ → Heard
+huntOf past at h =
     says Nothing
-    (pick (eqb past 7 && eqb h 0) (record { past = shifted past h; at = 5; bits = 0; given = No }) (hunting (shifted past h)))
+    (pick (startHunted past h || startWaited past at h) (started (shifted past h)) (waiting (shifted past h) (waitsOn at)))
 
 -- "The next four half-cycles must be 1 1 1 0; at the first that differs it hunts, saying nothing."
 unfoldable pub awaitOf : Receiver → ℕ → Heard
 awaitOf r h =
     pick (eqb h (pick (leb (r .at) 3) 1 0))
     (says Nothing (record { past = shifted (r .past) h; at = r .at + 1; bits = 0; given = r .given }))
-    (huntOf (r .past) h)
+    (huntOf (r .past) 0 h)
 
 -- "equal to the one just given"
 abbrev pub isRepeat : Given → Message → Bool
@@ -103,17 +146,26 @@ pairOf r bits past = outcomeOf r bits past (readingOf (r .at) bits)
 abbrev pub bitsAfter : Receiver → ℕ
 bitsAfter r = r .bits % 2 ^ 28 * 2 + r .past % 2
 
+-- "at s+22 .. if the break came in the first nine pairs, and one at s+62 if not": the pair's second half-cycle was s+at-1
+abbrev pub broken : ℕ → ℕ → Receiver
+broken past at = waiting past (pick (leb at 22) (near at) (far at))
+
 -- "It then reads pairs. An equal pair gives BROKEN 10 at its second half-cycle, and hunting resumes."
 unfoldable pub readOf : Receiver → ℕ → Heard
 readOf r h =
     pick (eqb (r .at % 2) 1)
     (says Nothing (record { past = shifted (r .past) h; at = r .at + 1; bits = r .bits; given = r .given }))
-    (pick (eqb (r .past % 2) h) (says BrokenPair (hunting (shifted (r .past) h)))
+    (pick (eqb (r .past % 2) h) (says BrokenPair (broken (shifted (r .past) h) (r .at)))
     (pairOf r (bitsAfter r) (shifted (r .past) h)))
+
+-- it reads no frame and awaits none
+abbrev pub isHunting : ℕ → Bool
+isHunting at = eqb at 0 || leb 63 at
 
 -- one half-cycle of 0 or 1 in a state that is not refused
 unfoldable pub takesOf : Receiver → ℕ → Heard
-takesOf r h = pick (eqb (r .at) 0) (huntOf (r .past) h) (pick (leb (r .at) 4) (awaitOf r h) (readOf r h))
+takesOf r h =
+    pick (isHunting (r .at)) (huntOf (r .past) (r .at) h) (pick (leb (r .at) 4) (awaitOf r h) (readOf r h))
 
 -- ---- one call
 
@@ -127,7 +179,7 @@ stepOf r h = judged (stepCauses r h) (takesOf r h) (λ why. says (Refused why) r
 
 -- "An equal pair": the half-cycle is a pair's second, and is what the first was
 abbrev pub equalPair : Receiver → ℕ → Bool
-equalPair r h = leb 5 (r .at) && (eqb (r .at % 2) 0 && eqb (r .past % 2) h)
+equalPair r h = (leb 5 (r .at) && leb (r .at) 62) && (eqb (r .at % 2) 0 && eqb (r .past % 2) h)
 
 -- "A ninth pair that completes code 10, 11 or 12 with function bit 1": that pair's bit is 1, after the four bits of the code
 abbrev pub unsupportedCode : Receiver → Bool

@@ -1,4 +1,4 @@
-// A receiver in eleven lent bytes: made fresh there, and run over half-cycles that are lent.
+// A receiver in thirteen lent bytes: made fresh there, and run over half-cycles that are lent.
 use crate::Event;
 use crate::Given;
 use crate::Receiver;
@@ -23,7 +23,7 @@ ghost use Rattle.ground.specs.Refusals.{countReport, reports, refuses, judged, 
 ghost use Rattle.wire.specs.Messages.{messageBytes, noneBytes, listed};
 ghost use Rattle.receiver.specs.Receivers.{freshReceiver, receiverOk};
 ghost use Rattle.receiver.specs.Hearing.{eventsOf, receiverAfter, givenBy, firstGiven, toGiven};
-ghost use Rattle.receiver.specs.Bytes.{givenFrom, fromFour, takenReceiver, receiverIn};
+ghost use Rattle.receiver.specs.Bytes.{frameByte, sinceByte, targetByte, placeFrom, givenFrom, fromFour, takenReceiver, receiverIn};
 ghost use Rattle.receiver.specs.Bytes.{receiverReport, heldCauses, givenBytes, receiverBytes, eventBytes};
 ghost use Rattle.receiver.specs.Bytes.{putCauses, putAnswer, putAfter, freshAnswer, freshAfter, receiveCauses, receiveAnswer, stateAfter, eventsAfter};
 ghost use Rattle.receiver.specs.Bytes.{stretchCauses, stretchOf, stretchEvents};
@@ -83,20 +83,45 @@ fn taken(r: Receiver) -> ReceiverRead
     ReceiverRead::Receiver(r)
 }
 
-// The receiver that bytes hold. Refused where they are not eleven, where the last five of them are neither 0 nor a message's, and
+// The place that three of a receiver's bytes say: that in its frame, or that of a waiting while it hunts. 255, which is refused, where they say none.
+fn place_from(at: u8, since: u8, target: u8) -> u8
+    ensures { λ n. ⌜ n ≡ placeFrom at since target ⌝ }
+{
+    if target == 0 {
+        return if (since == 0) & (at <= 62) { at } else { 255 };
+    }
+    if target == 22 {
+        return if (at == 0) & (since <= 25) {
+            64 + since
+        } else {
+            255
+        };
+    }
+    if target == 62 {
+        return if (at == 0) & (since <= 65) {
+            128 + since
+        } else {
+            255
+        };
+    }
+    255
+}
+
+// The receiver that bytes hold. Refused where they are not thirteen, where the five of the message given before are neither 0 nor a message's, and
 // where the receiver is in a state that there is not.
 pub fn receiver_in(state: &[u8]) -> ReceiverRead
     ensures answer { λ r. ⌜ r ≡ receiverIn (now (state .entry)) ⌝ }
     ensures number { λ r. ⌜ receiverReport r .number ≡ numberGiven (heldCauses (now (state .entry))) ⌝ }
 {
-    if state.len() != 11 {
+    if state.len() != 13 {
         return ReceiverRead::Refused(Refusal::State);
     }
+    let at = place_from(state[1], state[11], state[12]);
     let bits = number_of(state[2], state[3], state[4], state[5]);
     match given_from(state[6], state[7], state[8], state[9], state[10]) {
         GivenRead::Given(g) => taken(Receiver {
             past: state[0],
-            at: state[1],
+            at: at,
             bits: bits,
             given: g,
         }),
@@ -114,15 +139,40 @@ fn five_given(given: Given) -> Five
     }
 }
 
-// Puts a receiver into its eleven lent bytes.
+// The three bytes of a place: that in its frame, and of a waiting where the half-cycle that comes next stands, and the place awaited.
+fn frame_byte(at: u8) -> u8
+    ensures { λ n. ⌜ n ≡ frameByte at ⌝ }
+{
+    if at <= 62 { at } else { 0 }
+}
+
+fn since_byte(at: u8) -> u8
+    ensures { λ n. ⌜ n ≡ sinceByte at ⌝ }
+{
+    if at <= 62 {
+        return 0;
+    }
+    if at <= 127 { at % 64 } else { at % 128 }
+}
+
+fn target_byte(at: u8) -> u8
+    ensures { λ n. ⌜ n ≡ targetByte at ⌝ }
+{
+    if at <= 62 {
+        return 0;
+    }
+    if at <= 127 { 22 } else { 62 }
+}
+
+// Puts a receiver into its thirteen lent bytes.
 fn put_bytes(state: &mut [u8], r: Receiver)
-    requires { ⌜ length (now state) ≡ 11 ⌝ }
+    requires { ⌜ length (now state) ≡ 13 ⌝ }
     ensures { λ _. ⌜ now (state .exit) ≡ receiverBytes r ⌝ }
 {
     let given = r.given;
     let five = five_given(given);
     state[0] = r.past;
-    state[1] = r.at;
+    state[1] = frame_byte(r.at);
     state[2] = (r.bits / 16777216) as u8;
     state[3] = (r.bits / 65536 % 256) as u8;
     state[4] = (r.bits / 256 % 256) as u8;
@@ -132,15 +182,17 @@ fn put_bytes(state: &mut [u8], r: Receiver)
     state[8] = five.third;
     state[9] = five.data;
     state[10] = five.command;
+    state[11] = since_byte(r.at);
+    state[12] = target_byte(r.at);
 }
 
-// Puts a receiver into its eleven lent bytes. Refused where they are not eleven, or where it is in a state that there is not.
+// Puts a receiver into its thirteen lent bytes. Refused where they are not thirteen, or where it is in a state that there is not.
 pub fn put_receiver(state: &mut [u8], r: Receiver) -> CountAnswer
     ensures answer { λ o. ⌜ o ≡ putAnswer r (now (state .entry)) ⌝ }
     ensures report { λ o. ⌜ countReport o ≡ judged (putCauses r (now (state .entry))) (reports (0 ∷ [])) refuses ⌝ }
     ensures state { λ _. ⌜ now (state .exit) ≡ putAfter r (now (state .entry)) ⌝ }
 {
-    if state.len() != 11 {
+    if state.len() != 13 {
         return CountAnswer::Refused(Refusal::State);
     }
     if !valid(r) {
@@ -150,13 +202,13 @@ pub fn put_receiver(state: &mut [u8], r: Receiver) -> CountAnswer
     CountAnswer::Done(0)
 }
 
-// Makes eleven lent bytes a receiver that hunts and has received no half-cycle. Refused, it changes nothing.
+// Makes thirteen lent bytes a receiver that hunts and has received no half-cycle. Refused, it changes nothing.
 pub fn fresh(state: &mut [u8]) -> CountAnswer
     ensures answer { λ r. ⌜ r ≡ freshAnswer (now (state .entry)) ⌝ }
     ensures report { λ r. ⌜ countReport r ≡ judged (putCauses freshReceiver (now (state .entry))) (reports (0 ∷ [])) refuses ⌝ }
     ensures state { λ _. ⌜ now (state .exit) ≡ freshAfter (now (state .entry)) ⌝ }
 {
-    if state.len() != 11 {
+    if state.len() != 13 {
         return CountAnswer::Refused(Refusal::State);
     }
     put_bytes(state, crate::fresh());

@@ -6,13 +6,14 @@ use message::word::Reading;
 use message::word::read_extended;
 use message::word::read_standard;
 ghost use mathlib.Core.Path.{_≡_};
-ghost use mathlib.Core.Bool.{true};
+ghost use mathlib.Core.Bool.{true, _||_};
 ghost use Prim.Native.Nat.{_≤_, _/_, _%_, _^_};
 ghost use lib.Dec.{leb};
 ghost use Rattle.ground.specs.Choice.{pick};
 ghost use Rattle.ground.specs.Refusals.{refusalNumber, judged};
-ghost use Rattle.receiver.specs.Receivers.{eventNumber, freshReceiver, pairsOk, givenOk, receiverOk, stepCauses, stepOf, brokenNumber};
-ghost use Rattle.receiver.specs.Receivers.{shifted, hunting, says, huntOf, awaitOf, isRepeat, completeOf, readingOf, pairOf, readOf, takesOf};
+ghost use Rattle.receiver.specs.Receivers.{eventNumber, freshReceiver, pairsOk, givenOk, waitingOk, receiverOk, stepCauses, stepOf, brokenNumber};
+ghost use Rattle.receiver.specs.Receivers.{shifted, waiting, hunting, started, says, huntOf, awaitOf, isRepeat, completeOf};
+ghost use Rattle.receiver.specs.Receivers.{readingOf, pairOf, broken, readOf, takesOf};
 
 pub mod lent;
 
@@ -26,7 +27,9 @@ pub enum Given {
 pub struct Receiver {
     // The last six half-cycles as one number, the latest lowest; all ones before any has come.
     pub past: u8,
-    // 0 while hunting, else the place in its frame of the half-cycle that comes next, counted from 1.
+    // The place in its frame of the half-cycle that comes next, counted from 1; 0 while hunting with no start waited for. After a pair of equal
+    // half-cycles in a frame whose start began at half-cycle s the receiver hunts and waits for another start: then it is 64 + k while it waits at s+22
+    // and 128 + k while at s+62, the half-cycle that comes next being s+k.
     pub at: u8,
     // The bits of the pairs that have come, the latest lowest.
     pub bits: u32,
@@ -42,8 +45,8 @@ pub enum Event {
     BrokenPair,
     // A code that is no function and no extended code 1.
     BrokenUnsupported,
-    // Half: the half-cycle is not 0 or 1. State: a kept half-cycle is not 0 or 1, there are more pairs than the frame has, or a house or
-    // unit is above 15.
+    // Half: the half-cycle is not 0 or 1. State: a kept half-cycle is not 0 or 1, there are more pairs than the frame has, a house or
+    // unit is above 15, or no pair of equal half-cycles leads to what is waited for.
     Refused(Refusal),
 }
 
@@ -106,27 +109,52 @@ fn saying(event: Event, next: Receiver) -> Heard
     }
 }
 
-// A receiver that hunts.
-fn hunts(past: u8) -> Receiver
-    ensures { λ r. ⌜ r ≡ hunting past ⌝ }
+// A receiver that hunts, and waits for a start if `at` is not 0.
+fn waits(past: u8, at: u8) -> Receiver
+    ensures { λ r. ⌜ r ≡ waiting past at ⌝ }
 {
     Receiver {
         past: past,
-        at: 0,
+        at: at,
         bits: 0,
         given: Given::No,
     }
 }
 
-// Whether there are no more pairs than the frame has: past the ninth, only those of an extended frame.
-fn pairs_fit(at: u8, bits: u32) -> bool
-    ensures { λ b. ⌜ b ≡ pairsOk at bits ⌝ }
+fn hunts(past: u8) -> Receiver
+    ensures { λ r. ⌜ r ≡ hunting past ⌝ }
+{
+    waits(past, 0)
+}
+
+// A receiver that reads from the first pair of a frame on, no message having been given directly before.
+fn starts(past: u8) -> Receiver
+    ensures { λ r. ⌜ r ≡ started past ⌝ }
+{
+    Receiver {
+        past: past,
+        at: 5,
+        bits: 0,
+        given: Given::No,
+    }
+}
+
+// Whether some pair of equal half-cycles, with calls after it, leads to this waiting: 64 + k with k from 6 to 25, or 128 + k with k from 24 to 65.
+fn waiting_fits(at: u8) -> bool
+    ensures { λ b. ⌜ b ≡ waitingOk at ⌝ }
+{
+    ((70 <= at) & (at <= 89)) | ((152 <= at) & (at <= 193))
+}
+
+// Whether there are no more pairs than the frame has: past the ninth, only those of an extended frame. A place beyond every frame is that of a waiting.
+fn place_fits(at: u8, bits: u32) -> bool
+    ensures { λ b. ⌜ b ≡ (pairsOk at bits || waitingOk at) ⌝ }
 {
     if at <= 22 {
         return true;
     }
     if at > 62 {
-        return false;
+        return waiting_fits(at);
     }
     let further = (at - 23) / 2;
     (bits >> further) % 32 == 15
@@ -141,18 +169,18 @@ fn given_valid(given: Given) -> bool
     }
 }
 
-// Whether a receiver is in none of the states that are refused.
+// Whether a receiver is in none of the states that are refused. The place is looked at last: it is what a step looks at next.
 pub fn valid(r: Receiver) -> bool
     ensures { λ b. ⌜ b ≡ receiverOk r ⌝ }
 {
     if r.past > 63 {
         return false;
     }
-    if !pairs_fit(r.at, r.bits) {
+    let given = r.given;
+    if !given_valid(given) {
         return false;
     }
-    let given = r.given;
-    given_valid(given)
+    place_fits(r.at, r.bits)
 }
 
 // The last six half-cycles with one more.
@@ -163,22 +191,37 @@ fn shift(past: u8, half: u8) -> u8
     past % 32 * 2 + half
 }
 
-// Hunting: a frame begins after 0 0 0 1 1 1 0, of which the last is this half-cycle.
+// Hunting with no start waited for: a frame begins after 0 0 0 1 1 1 0, of which the last is this half-cycle.
 fn hunt(past: u8, half: u8) -> Heard
     requires { ⌜ half ≤ 1 ⌝ }
-    ensures { λ o. ⌜ o ≡ huntOf past half ⌝ }
+    ensures { λ o. ⌜ o ≡ huntOf past 0 half ⌝ }
 {
     let now = shift(past, half);
     if (past == 7) & (half == 0) {
-        return saying(
-            Event::Nothing,
-            Receiver {
-                past: now,
-                at: 5,
-                bits: 0,
-                given: Given::No,
-            },
-        );
+        return saying(Event::Nothing, starts(now));
+    }
+    saying(Event::Nothing, hunts(now))
+}
+
+// Hunting while a start is waited for: a frame begins with that too. Its fourth half-cycle comes at 89, which is 64 + 25, or at 193, 128 + 65. Where no
+// start stood at s+22, one is waited for at s+62, from 128 + 26 on; where none stood there, no longer.
+fn wait(past: u8, at: u8, half: u8) -> Heard
+    requires { ⌜ (half ≤ 1) × (waitingOk at ≡ true) ⌝ }
+    ensures { λ o. ⌜ o ≡ huntOf past at half ⌝ }
+{
+    let now = shift(past, half);
+    let hunted = (past == 7) & (half == 0);
+    if hunted {
+        return saying(Event::Nothing, starts(now));
+    }
+    if (at != 89) & (at != 193) {
+        return saying(Event::Nothing, waits(now, at + 1));
+    }
+    if (past % 8 == 7) & (half == 0) {
+        return saying(Event::Nothing, starts(now));
+    }
+    if at == 89 {
+        return saying(Event::Nothing, waits(now, 154));
     }
     saying(Event::Nothing, hunts(now))
 }
@@ -270,9 +313,21 @@ fn pair(r: Receiver, bits: u32, past: u8) -> Heard
                 given: given,
             },
         ),
-        Reading::Unsupported => saying(Event::BrokenUnsupported, hunts(past)),
+        Reading::Unsupported => saying(Event::BrokenUnsupported, waits(past, 0)),
         Reading::Refused(why) => saying(Event::Refused(why), r),
     }
+}
+
+// After a pair of equal half-cycles at a place: the receiver hunts, and waits for the start of the second copy, of a standard frame where the pair is
+// one of the first nine.
+fn breaks(past: u8, at: u8) -> Receiver
+    requires { ⌜ at ≤ 62 ⌝ }
+    ensures { λ r. ⌜ r ≡ broken past at ⌝ }
+{
+    if at <= 22 {
+        return waits(past, 64 + at);
+    }
+    waits(past, 128 + at)
 }
 
 // Reading pairs: the first half-cycle of a pair is kept, the second is compared with it.
@@ -295,14 +350,14 @@ fn reads(r: Receiver, half: u8) -> Heard
     }
     let first = r.past % 2;
     if first == half {
-        return saying(Event::BrokenPair, hunts(past));
+        return saying(Event::BrokenPair, breaks(past, r.at));
     }
     pair(r, r.bits % 268435456 * 2 + first as u32, past)
 }
 
 // A half-cycle of 0 or 1, in a state that is not refused.
 fn takes(r: Receiver, half: u8) -> Heard
-    requires { ⌜ (half ≤ 1) × (pairsOk (r .at) (r .bits) ≡ true) ⌝ }
+    requires { ⌜ (half ≤ 1) × ((pairsOk (r .at) (r .bits) || waitingOk (r .at)) ≡ true) ⌝ }
     ensures { λ o. ⌜ o ≡ takesOf r half ⌝ }
 {
     if r.at == 0 {
@@ -311,5 +366,8 @@ fn takes(r: Receiver, half: u8) -> Heard
     if r.at <= 4 {
         return awaits(r, half);
     }
-    reads(r, half)
+    if r.at <= 62 {
+        return reads(r, half);
+    }
+    wait(r.past, r.at, half)
 }

@@ -4,6 +4,7 @@
 --     Framed, framed     the record; every valid message has it
 --     pairs-few          no more than nine pairs are never too many
 use Prim.Native.Nat.{ℕ, zero, suc, _+_, _-_, _*_, _/_, _%_, _^_, _≤_, _<_}
+use mathlib.Core.Logic.{_⊎_, inl, inr}
 use mathlib.Core.Path.{_≡_, refl, sym, ap, _∙_}
 use mathlib.Core.Bool.{true}
 use native.Mathlib.Nat.{div-eq-of-lt}
@@ -11,6 +12,7 @@ use native.Mathlib.Numerals.{add-one}
 use native.Mathlib.Decide.{decLe, ℕ-discrete}
 use native.Mathlib.Omega.{arith}
 use borrow.Author.Tests.{le-leb, lt-leb, eq-eqb, ne-eqb}
+use lib.Dec.{lit≤}
 use lib.Pow.{shr-shr, shr-le}
 use Rattle.message.specs.Codes.{codeOf}
 use Rattle.message.specs.Messages.{messageOk}
@@ -44,6 +46,8 @@ pub record Framed (m : Message) : Type 0 where
   -- the bits that follow the first
   pub rest : ℕ
   pub count : bitCount m ≡ suc rest
+  pub kinds : (rest ≡ 8) ⊎ (rest ≡ 28)
+  pub most : rest ≤ 28
   -- the half-cycles before the last: four of the start, one of the first pair, and two for each bit that follows
   pub lead : frameLength m - 1 ≡ suc (suc (suc (suc (suc (twice rest)))))
   pub small : wordOf m < 2 ^ 29
@@ -66,6 +70,8 @@ unfolding pairOf
 standard m n f s e = record {
   rest = 8;
   count = n;
+  kinds = inl refl;
+  most = lit≤ tt;
   lead = ap (λ (x : ℕ). x - 1) f;
   small = omega arith;
   none = div-eq-of-lt s;
@@ -118,6 +124,8 @@ module _ (h u d c : ℕ) (ok : messageOk (Extended h u d c) ≡ true) where
   extended = record {
     rest = 28;
     count = refl;
+    kinds = inr refl;
+    most = lit≤ tt;
     lead = refl;
     small = word-below (Extended h u d c) ok;
     none = div-eq-of-lt (word-below (Extended h u d c) ok);

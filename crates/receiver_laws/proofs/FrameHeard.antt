@@ -3,7 +3,7 @@
 --     Before, reading                          where a receiver stands before a pair of m's frame
 --     first-half, second-half, equal-half      the half-cycles of a pair, and of one that is equal
 --     before-next, reads-pair, hears-pairs     a pair that others follow; all pairs, by induction on the bits left
---     Started, ready-starts, awaiting-starts   the start 1 1 1 0
+--     Started, Ones, three-ones, ready-starts, awaiting-starts   the start 1 1 1 0
 --     Awaited, awaits-on, awaits-off           a half-cycle of the awaited start, and another
 --     hears-frame, hears-repeat                the frame of a valid message
 use Prim.Native.Nat.{ℕ, zero, suc, _+_, _-_, _*_, _/_, _%_, _^_, _≤_}
@@ -21,15 +21,17 @@ use Rattle.message.specs.Words.{wordOf}
 use Rattle.message.specs.declared.Message.{Message}
 use Rattle.message.proofs.CodeLaws.{same-is-equal}
 use Rattle.burst.specs.Frames.{bitsOf, pairsOf, frameOf}
-use Rattle.receiver.specs.Receivers.{stepOf, pairOf, completeOf, says, hunting, shifted, receiverOk, givenOk}
+use Rattle.receiver.specs.Receivers.{stepOf, pairOf, completeOf, says, hunting, started, broken, isHunting, waitsOn, shifted, receiverOk, givenOk}
+use Rattle.receiver.proofs.ReceiverLaws.{waits-hunts, valid-waiting}
 use Rattle.receiver.specs.declared.Given.{Given}
 use Rattle.receiver.specs.declared.Given.the-variants.{No, Yes}
 use Rattle.receiver.specs.declared.Receiver.{Receiver}
 use Rattle.receiver.specs.declared.Event.the-variants.{Nothing, Message as Gives, Repeat, BrokenPair}
 use Rattle.receiver_laws.specs.Whole.{Ready, frameEvents, lastSix}
 use Rattle.receiver_laws.proofs.Runs.{Run, run-none, run-more, run-append}
-use Rattle.receiver_laws.proofs.Steps.{standing, standing-ok, hunting-ok, NoStart, no-start-one, hunts-on, hunts-start, step-wanted, step-unwanted}
+use Rattle.receiver_laws.proofs.Steps.{standing, standing-ok, NoStart, no-start-one, later, hunts-on, hunts-start, step-wanted, step-unwanted}
 use Rattle.receiver_laws.proofs.Steps.{step-first, step-second, step-equal}
+use Rattle.receiver_laws.proofs.Rests.{later-waits}
 use Rattle.receiver_laws.proofs.FrameBits.{Framed, twice, one-more-bit, pairs-few}
 use Rattle.receiver_laws.proofs.Pasts.{start, paired}
 
@@ -53,18 +55,19 @@ module _ (m : Message) (F : Framed m) (g : Given) (ok : givenOk g ≡ true) wher
     valid b q l = standing-ok g q b (wordOf m / 2 ^ suc i) ok (l .2) (F .pairs i b (omega arith) (omega arith))
 
     pub first-half : stepOf (reading m g i a p) x ≡ says Nothing (reading m g i (a + 1) (shifted p x))
-    first-half = step-first g p a (wordOf m / 2 ^ suc i) x (valid a p (omega arith)) hx (omega arith) (omega arith)
+    first-half = step-first g p a (wordOf m / 2 ^ suc i) x (valid a p (omega arith)) hx (omega arith) (omega arith) (omega arith)
 
-    pub equal-half : stepOf (reading m g i (a + 1) (shifted p x)) x ≡ says BrokenPair (hunting (shifted (shifted p x) x))
+    pub equal-half : stepOf (reading m g i (a + 1) (shifted p x)) x ≡ says BrokenPair (broken (shifted (shifted p x) x) (a + 1))
     equal-half =
-        step-equal g (shifted p x) (a + 1) (wordOf m / 2 ^ suc i) x (valid (a + 1) (shifted p x) (omega arith)) hx (omega arith) (omega arith) (omega arith)
+        step-equal g (shifted p x) (a + 1) (wordOf m / 2 ^ suc i) x (valid (a + 1) (shifted p x) (omega arith)) hx
+        (omega arith) (omega arith) (omega arith) (omega arith)
 
     pub second-half : x ≡ bit m i
         → stepOf (reading m g i (a + 1) (shifted p x)) (1 - x) ≡ pairOf (reading m g i (a + 1) (shifted p x)) (wordOf m / 2 ^ i) (paired p x)
     second-half e =
         let same : (p % 32 * 2 + x) % 2 ≡ wordOf m / 2 ^ i % 2 = omega arith in
         step-second g (shifted p x) (a + 1) (wordOf m / 2 ^ suc i) (1 - x)
-        (valid (a + 1) (shifted p x) (omega arith)) (omega arith) (omega arith) (omega arith) (omega arith)
+        (valid (a + 1) (shifted p x) (omega arith)) (omega arith) (omega arith) (omega arith) (omega arith) (omega arith)
         ∙ ap (λ (b : ℕ). pairOf (reading m g i (a + 1) (shifted p x)) b (paired p x))
         (ap (λ (y : ℕ). wordOf m / 2 ^ suc i % 2 ^ 28 * 2 + y) same ∙ one-more-bit (wordOf m) i (F .small))
 
@@ -101,17 +104,39 @@ module _ (m : Message) (F : Framed m) (g : Given) (ok : givenOk g ≡ true) wher
 abbrev pub Started : Receiver → Given → Type 0
 Started r g = Run r start (replicate 4 Nothing) (standing g (lastSix (r .past) start) 5 0)
 
+-- three ones, heard in the hunt
+pub record Ones (r : Receiver) : Type 0 where
+  pub run : Run r (1 ∷ 1 ∷ 1 ∷ []) (replicate 3 Nothing) (later (later (later r 1) 1) 1)
+  pub valid : receiverOk (later (later (later r 1) 1) 1) ≡ true
+  pub hunts : isHunting (waitsOn (waitsOn (waitsOn (r .at)))) ≡ true
+
+pub three-ones : (r : Receiver) → receiverOk r ≡ true → isHunting (r .at) ≡ true → Ones r
+three-ones r v e =
+    let a = one-valid r v e in
+    let b = one-valid (later r 1) (a .0) (a .1) in
+    let c = one-valid (later (later r 1) 1) (b .0) (b .1) in
+    record {
+      run = run-more (one-heard r v e)
+          (run-more (one-heard (later r 1) (a .0) (a .1))
+          (run-more (one-heard (later (later r 1) 1) (b .0) (b .1)) (run-none (later (later (later r 1) 1) 1))));
+      valid = c .0;
+      hunts = c .1;
+    }
+  where
+    one-heard : (q : Receiver) → receiverOk q ≡ true → isHunting (q .at) ≡ true → stepOf q 1 ≡ says Nothing (later q 1)
+    one-heard q u f = hunts-on q u f 1 (omega arith) (no-start-one (q .past) (q .at))
+
+    one-valid : (q : Receiver) → receiverOk q ≡ true → isHunting (q .at) ≡ true → (receiverOk (later q 1) ≡ true) × (isHunting (waitsOn (q .at)) ≡ true)
+    one-valid q u f =
+        let waits = later-waits q u f in
+        (valid-waiting (shifted (q .past) 1) (waitsOn (q .at)) (omega arith) waits, waits-hunts (waitsOn (q .at)) waits)
+
 pub ready-starts : (r : Receiver) → Ready r → Started r No
 unfolding lastSix
 ready-starts r h =
-    let p₁ = shifted (r .past) 1 in
-    let p₂ = shifted p₁ 1 in
-    let p₃ = shifted p₂ 1 in
-    run-more (hunts-on r (h .valid) (h .hunts) 1 (omega arith) (no-start-one (r .past)))
-    (run-more (hunts-on (hunting p₁) (hunting-ok p₁ (omega arith)) refl 1 (omega arith) (no-start-one p₁))
-    (run-more (hunts-on (hunting p₂) (hunting-ok p₂ (omega arith)) refl 1 (omega arith) (no-start-one p₂))
-    (run-more (hunts-start (hunting p₃) (hunting-ok p₃ (omega arith)) refl (omega arith))
-    (run-none (standing No (shifted p₃ 0) 5 0)))))
+    let ones = three-ones r (h .valid) (h .hunts) in
+    let s = later (later (later r 1) 1) 1 in
+    run-append (ones .run) (run-more (hunts-start s (ones .valid) (ones .hunts) (omega (arith, h .cleared))) (run-none (started (shifted (s .past) 0))))
 
 -- a receiver that awaits the second copy of m
 abbrev pub awaiting : Message → ℕ → Receiver
@@ -132,7 +157,7 @@ module _ (m : Message) (ok : messageOk m ≡ true) where
     pub awaits-on : h ≡ pick (leb a 3) 1 0 → stepOf (standing (Yes m) p a 0) h ≡ says Nothing (standing (Yes m) (shifted p h) (a + 1) 0)
     awaits-on e = step-wanted (Yes m) p a 0 h awaits-ok (w .half) (w .low) (w .high) e
 
-    pub awaits-off : h ≢ pick (leb a 3) 1 0 → NoStart p h → stepOf (standing (Yes m) p a 0) h ≡ says Nothing (hunting (shifted p h))
+    pub awaits-off : h ≢ pick (leb a 3) 1 0 → NoStart p 0 h → stepOf (standing (Yes m) p a 0) h ≡ says Nothing (hunting (shifted p h))
     awaits-off e n = step-unwanted (Yes m) p a 0 h awaits-ok (w .half) (w .low) (w .high) e n
 
   pub awaiting-starts : (p : ℕ) → p ≤ 63 → Started (awaiting m p) (Yes m)
@@ -158,6 +183,10 @@ module _ (m : Message) (F : Framed m) (ok : messageOk m ≡ true) where
       let p = lastSix (r .past) start in
       let begins : Before F (F .rest) 5 p = omega arith in
       rw (F .count, F .lead) (run-append s (rw (F .none) at (hears-pairs m F g hg (F .rest) 5 p begins)))
+
+  pub hears-started : (r : Receiver) → Started r No → Run r (frameOf m) (frameEvents m (Gives m)) (awaiting m (lastSix (r .past) (frameOf m)))
+  unfolding completeOf
+  hears-started r s = hears-whole r No refl s
 
   pub hears-frame : (r : Receiver) → Ready r → Run r (frameOf m) (frameEvents m (Gives m)) (awaiting m (lastSix (r .past) (frameOf m)))
   unfolding completeOf

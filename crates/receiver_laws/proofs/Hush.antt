@@ -20,13 +20,13 @@ use Rattle.receiver.specs.declared.Event.the-variants.{Nothing}
 use Rattle.receiver_laws.specs.Whole.{clear, lastSix}
 use Rattle.receiver_laws.specs.Inversion.{inverted}
 use Rattle.receiver_laws.proofs.Runs.{Run, run-none, run-more}
-use Rattle.receiver_laws.proofs.Steps.{hunting-ok, NoStart, no-start-one, no-start-past, hunts-on}
+use Rattle.receiver_laws.proofs.Steps.{hunting-ok, NoStart, no-start-one, no-start-plain, hunts-on}
 use Rattle.receiver_laws.proofs.Pasts.{start, paired, two-more, two-kept, three-more, four-more, Bits, bits-of, Clean}
 
 -- the half-cycles are 0 or 1, and none of them completes the start pattern
 abbrev pub Hush : ℕ → List ℕ → Type 0
 Hush p [] = Unit {0}
-Hush p (h ∷ hs) = (h ≤ 1) × NoStart p h × Hush (shifted p h) hs
+Hush p (h ∷ hs) = (h ≤ 1) × NoStart p 0 h × Hush (shifted p h) hs
 
 pub hush-run : (hs : List ℕ) (p : ℕ) → p ≤ 63 → Hush p hs → Run (hunting p) hs (replicate (length hs) Nothing) (hunting (lastSix p hs))
 unfolding lastSix
@@ -42,7 +42,7 @@ hush-append (h ∷ hs) ks p u v = (u .0, u .1, hush-append hs ks (shifted p h) (
 
 pub hush-clear : (y p : ℕ) → p ≢ 7 → Hush p (clear y)
 hush-clear zero p n = tt
-hush-clear (suc y) p n = (omega arith, no-start-past p 0 n, hush-clear y (shifted p 0) (omega arith))
+hush-clear (suc y) p n = (omega arith, no-start-plain p 0 n, hush-clear y (shifted p 0) (omega arith))
 
 -- ---- pairs
 
@@ -52,12 +52,12 @@ pub record Calm (p : ℕ) : Type 0 where
   pub ones : p ≢ 7
   pub two-ones : p % 32 ≢ 3
 
-hush-pair : (p b : ℕ) → b ≤ 1 → Calm p → NoStart p b × NoStart (shifted p b) (1 - b)
-hush-pair p zero h c = (no-start-past p 0 (c .ones), no-start-one (shifted p 0))
-hush-pair p (suc zero) h c = (no-start-one p, no-start-past (shifted p 1) 0 (omega arith))
+hush-pair : (p b : ℕ) → b ≤ 1 → Calm p → NoStart p 0 b × NoStart (shifted p b) 0 (1 - b)
+hush-pair p zero h c = (no-start-plain p 0 (c .ones), no-start-one (shifted p 0) 0)
+hush-pair p (suc zero) h c = (no-start-one p 0, no-start-plain (shifted p 1) 0 (omega arith))
 hush-pair p (suc (suc b)) h c = absurd (omega arith)
 
-calm-pair : (p b : ℕ) → b ≤ 1 → Calm (paired p b)
+pub calm-pair : (p b : ℕ) → b ≤ 1 → Calm (paired p b)
 calm-pair p b h = rw (two-more p b (1 - b) h) (omega arith)
 
 pub hush-pairs : (bs : List ℕ) (p : ℕ) → Bits bs → Calm p → Hush p (pairsOf bs)
@@ -100,7 +100,7 @@ module _ (m : Message) (p : ℕ) where
       let p₃ = shifted p₂ 1 in
       let three : p₃ ≢ 7 = rw (three-more p 1 1 1 (omega arith)) (omega arith) in
       let pairs = hush-pairs bits (shifted p₃ 0) (bits-of (bitCount m) (wordOf m)) (calm-four p 1 1 1 0 (omega arith)) in
-      (omega arith, no-start-one p, (omega arith, no-start-one p₁, (omega arith, no-start-one p₂, (omega arith, no-start-past p₃ 0 three, pairs))))
+      (omega arith, no-start-one p 0, (omega arith, no-start-one p₁ 0, (omega arith, no-start-one p₂ 0, (omega arith, no-start-plain p₃ 0 three, pairs))))
 
   pub calm-frame : Calm (lastSix p (frameOf m))
   unfolding frameOf lastSix bits
@@ -120,26 +120,40 @@ hush-start zero p l s =
     let p₁ = shifted p 0 in
     let p₂ = shifted p₁ 1 in
     let p₃ = shifted p₂ 1 in
-    let third : p₃ ≢ 7 = rw (three-more p 0 1 1 (omega arith)) (omega arith) in
-    (omega arith, no-start-past p 0 (s .ones), (omega arith, no-start-one p₁, (omega arith, no-start-one p₂, (omega arith, no-start-past p₃ 0 third, tt))))
+    let third : p₃ ≢ 7 = rw (three-more p 0 1 1 (omega arith)) (omega arith) in (
+      omega arith,
+      no-start-plain p 0 (s .ones),
+      (
+        omega arith,
+        no-start-one p₁ 0,
+        (omega arith, no-start-one p₂ 0, (omega arith, no-start-plain p₃ 0 third, tt)),
+      ),
+    )
 hush-start (suc zero) p l s =
     let p₁ = shifted p 1 in
     let p₂ = shifted p₁ 0 in
     let p₃ = shifted p₂ 1 in
     let first : p₁ ≢ 7 = omega arith in
     let third : p₃ ≢ 7 = rw (three-more p 1 0 1 (omega arith)) (omega arith) in
-    (omega arith, no-start-one p, (omega arith, no-start-past p₁ 0 first, (omega arith, no-start-one p₂, (omega arith, no-start-past p₃ 0 third, tt))))
+    (omega arith, no-start-one p 0, (omega arith, no-start-plain p₁ 0 first, (omega arith, no-start-one p₂ 0, (omega arith, no-start-plain p₃ 0 third, tt))))
 hush-start (suc (suc zero)) p l s =
     let p₁ = shifted p 1 in
     let p₂ = shifted p₁ 1 in
     let p₃ = shifted p₂ 0 in
-    let second : p₂ ≢ 7 = rw (two-more p 1 1 (omega arith)) (omega arith) in
-    (omega arith, no-start-one p, (omega arith, no-start-one p₁, (omega arith, no-start-past p₂ 0 second, (omega arith, no-start-past p₃ 0 (omega arith), tt))))
+    let second : p₂ ≢ 7 = rw (two-more p 1 1 (omega arith)) (omega arith) in (
+      omega arith,
+      no-start-one p 0,
+      (
+        omega arith,
+        no-start-one p₁ 0,
+        (omega arith, no-start-plain p₂ 0 second, (omega arith, no-start-plain p₃ 0 (omega arith), tt)),
+      ),
+    )
 hush-start (suc (suc (suc zero))) p l s =
     let p₁ = shifted p 1 in
     let p₂ = shifted p₁ 1 in
     let p₃ = shifted p₂ 1 in
-    (omega arith, no-start-one p, (omega arith, no-start-one p₁, (omega arith, no-start-one p₂, (omega arith, no-start-one p₃, tt))))
+    (omega arith, no-start-one p 0, (omega arith, no-start-one p₁ 0, (omega arith, no-start-one p₂ 0, (omega arith, no-start-one p₃ 0, tt))))
 hush-start (suc (suc (suc (suc i)))) p l s = absurd (omega arith)
 
 pub calm-start : (i p : ℕ) → i < 4 → Calm (lastSix p (inverted i start))

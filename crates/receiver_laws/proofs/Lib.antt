@@ -8,4 +8,6 @@ pub mod Rests
 pub mod Whole
 pub mod Standing
 pub mod Told
+pub mod Waited
 pub mod Inversion
+pub mod Waitings

@@ -13,7 +13,7 @@ use lib.ListN.{replicate}
 use Rattle.message.specs.Messages.{messageOk}
 use Rattle.message.specs.declared.Message.{Message}
 use Rattle.burst.specs.Frames.{frameOf, burstOf}
-use Rattle.receiver.specs.Receivers.{hunting, shifted, freshReceiver}
+use Rattle.receiver.specs.Receivers.{hunting, freshReceiver}
 use Rattle.receiver.specs.declared.Receiver.{Receiver}
 use Rattle.receiver.specs.declared.Event.the-variants.{Nothing}
 use Rattle.receiver_laws.specs.Whole.{clear, Ready, burstEvents, lastSix, Hears, EveryBurstIsHeard}
@@ -22,7 +22,7 @@ use Rattle.receiver_laws.proofs.FrameBits.{framed}
 use Rattle.receiver_laws.proofs.Pasts.{six-append, clean-frame}
 use Rattle.receiver_laws.proofs.FrameHeard.{hears-frame, hears-repeat}
 use Rattle.receiver_laws.proofs.Hush.{Hush, hush-run, hush-append, hush-clear, hush-frame}
-use Rattle.receiver_laws.proofs.Rests.{Rests, rests-fresh, ready-rests, rests-ready, rests-step, rests-next}
+use Rattle.receiver_laws.proofs.Rests.{Rests, rests-fresh, ready-rests, rests-ready, rested, rests-step, rests-next}
 
 module _ (m : Message) (ok : messageOk m ≡ true) where
   pub hears-burst : (r : Receiver) → Ready r → Run r (burstOf m) (burstEvents m) (hunting (lastSix (r .past) (burstOf m)))
@@ -37,7 +37,7 @@ module _ (m : Message) (ok : messageOk m ≡ true) where
       → Run r (clear z ++ burstOf m) (replicate z Nothing ++ burstEvents m) (hunting (lastSix (r .past) (clear z ++ burstOf m)))
   unfolding lastSix
   hears-after zero c r h l = hears-burst r (rests-ready c r (omega arith) h)
-  hears-after (suc z) c r h l = run-more (rests-step h) (hears-after z (suc c) (hunting (shifted (r .past) 0)) (rests-next h) (omega arith))
+  hears-after (suc z) c r h l = run-more (rests-step h) (hears-after z (suc c) (rested r) (rests-next h) (omega arith))
 
   hears : (z c : ℕ) (r : Receiver) → Rests c r → 3 ≤ c + z → Hears r z m
   hears z c r h l = let u = hears-after z c r h l in record { events = u .events; after = u .stands }

@@ -9,7 +9,7 @@ use lib.ListN.{length, replicate}
 use Rattle.message.specs.Messages.{messageOk}
 use Rattle.message.specs.declared.Message.{Message}
 use Rattle.burst.specs.Frames.{frameLength, burstOf}
-use Rattle.receiver.specs.Receivers.{freshReceiver, receiverOk, shifted, hunting}
+use Rattle.receiver.specs.Receivers.{freshReceiver, isHunting, receiverOk, shifted, hunting}
 use Rattle.receiver.specs.Hearing.{eventsOf, receiverAfter}
 use Rattle.receiver.specs.declared.Receiver.{Receiver}
 use Rattle.receiver.specs.declared.Event.{Event}
@@ -19,10 +19,11 @@ use Rattle.receiver.specs.declared.Event.the-variants.{Nothing, Message as Give
 abbrev pub clear : ℕ → List ℕ
 clear z = replicate z 0
 
--- a valid hunting receiver whose last three half-cycles were 0, whatever stands in its other fields; `past` has the latest lowest
+-- a valid hunting receiver, with a start waited for or none, whose last three half-cycles were 0, whatever stands in its other fields; `past` has the
+-- latest lowest
 pub record Ready (r : Receiver) : Type 0 where
   pub valid : receiverOk r ≡ true
-  pub hunts : r .at ≡ 0
+  pub hunts : isHunting (r .at) ≡ true
   pub cleared : r .past % 8 ≡ 0
 
 -- what is said of a frame: nothing before its last half-cycle, and there the event e

@@ -3,7 +3,7 @@
 --     answer, state, answer-more, state-after         the answer and the state; after one half-cycle more; by the calls one after another
 --     taken-bits, refuses, state-taken                the half-cycles that count are 0 or 1, and bring the receiver where all do
 --     Told, Stood, told-stands, told-by, stood-by     the two, with the history's last six half-cycles as `past`
---     goes, breaks                                    nothing is said and it goes on; something is said and it hunts
+--     goes, breaks                                    nothing is said and it goes on; something is said and it hunts, and may wait
 --     step-told, valid, fresh-stood                   one half-cycle, by what a single call gives; the state is valid; no half-cycle
 --     hunt-told, start-told                           hunting, without a start and with one
 --     first-told, equal-told, pair-told               a pair's first half-cycle, an equal pair, a pair of different half-cycles
@@ -16,7 +16,7 @@ use native.Mathlib.Omega.{arith}
 use borrow.Author.Tests.{le-leb, lt-leb}
 use Rattle.ground.specs.Refusals.{judged}
 use Rattle.ground.specs.declared.Refusal.the-variants as refusal
-use Rattle.receiver.specs.Receivers.{stepOf, says, hunting, shifted, receiverOk, freshReceiver, pairOf}
+use Rattle.receiver.specs.Receivers.{stepOf, takesOf, huntOf, says, waiting, broken, waitsOn, isHunting, shifted, receiverOk, freshReceiver, pairOf}
 use Rattle.receiver.specs.Hearing.{receiverAfter, taken}
 use Rattle.receiver.specs.declared.Given.{Given}
 use Rattle.receiver.specs.declared.Given.the-variants.{No}
@@ -27,9 +27,10 @@ use Rattle.receiver.specs.declared.Heard.{Heard}
 use Rattle.receiver.proofs.ReceiverLaws.{fresh-is-valid, stays-valid}
 use Rattle.receiver_laws.specs.Whole.{lastSix}
 use Rattle.receiver_laws.proofs.Pasts.{Bits}
-use Rattle.receiver_laws.proofs.Steps.{standing, NoStart, hunts-on, hunts-start, step-first, step-second, step-equal}
+use Rattle.receiver_laws.proofs.Steps.{standing, NoStart, hunts-on, step-first, step-second, step-equal}
 use Rattle.receiver_reading.specs.Standing.{pastOf}
 use Rattle.receiver_reading.proofs.Histories.{six-more, six-half}
+use Rattle.receiver_reading.proofs.Starts.{Found}
 
 -- ---- the answer to the last half-cycle
 
@@ -105,9 +106,9 @@ Stood hs g a w = state hs ≡ standing g (pastOf hs) a w
 abbrev pub goes : Given → ℕ → ℕ → ℕ → Heard
 goes g a w p = says Nothing (standing g p a w)
 
--- the frame ends and the receiver hunts
-abbrev pub breaks : Event → ℕ → Heard
-breaks e p = says e (hunting p)
+-- the frame ends and the receiver hunts, `at` as given
+abbrev pub breaks : Event → ℕ → ℕ → Heard
+breaks e a p = says e (waiting p a)
 
 pub told-stands : (hs : List ℕ) (f : ℕ → Heard) → Told hs f → state hs ≡ f (pastOf hs) .next
 told-stands hs f t = ap (λ (o : Heard). o .next) t
@@ -131,15 +132,14 @@ fresh-stood = refl
 
 -- ---- hunting
 
-module _ (hs : List ℕ) (s : Stood hs No 0 0) where
-  hunting-valid : receiverOk (hunting (pastOf hs)) ≡ true
-  hunting-valid = valid hs No 0 0 s
+module _ (hs : List ℕ) (a : ℕ) (s : Stood hs No a 0) (t : isHunting a ≡ true) where
+  pub hunt-told : (h : ℕ) → h ≤ 1 → NoStart (pastOf hs) a h → Told (hs ++ h ∷ []) (goes No (waitsOn a) 0)
+  hunt-told h l n = step-told hs No a 0 s h (goes No (waitsOn a) 0) (hunts-on (waiting (pastOf hs) a) (valid hs No a 0 s) t h l n)
 
-  pub hunt-told : (h : ℕ) → h ≤ 1 → NoStart (pastOf hs) h → Told (hs ++ h ∷ []) (goes No 0 0)
-  hunt-told h l n = step-told hs No 0 0 s h (goes No 0 0) (hunts-on (hunting (pastOf hs)) hunting-valid refl h l n)
-
-  pub start-told : pastOf hs ≡ 7 → Told (hs ++ 0 ∷ []) (goes No 5 0)
-  start-told e = step-told hs No 0 0 s 0 (goes No 5 0) (hunts-start (hunting (pastOf hs)) hunting-valid refl e)
+  -- a start is found, the hunted one or that which is waited for
+  pub start-told : (h : ℕ) → h ≤ 1 → Found (pastOf hs) a h → Told (hs ++ h ∷ []) (goes No 5 0)
+  unfolding stepOf judged takesOf huntOf
+  start-told h l f = step-told hs No a 0 s h (goes No 5 0) (rw (le-leb h 1 l, valid hs No a 0 s, t, f))
 
 -- ---- the pairs
 
@@ -147,21 +147,25 @@ module _ (hs : List ℕ) (s : Stood hs No 0 0) where
 abbrev pub brings : List ℕ → Given → ℕ → ℕ → ℕ → ℕ → Heard
 brings hs g n w x p = pairOf (standing g (pastOf (hs ++ x ∷ [])) (5 + 2 * n + 1) w) (w * 2 + x) p
 
-module _ (hs : List ℕ) (g : Given) (n w : ℕ) (s : Stood hs g (5 + 2 * n) w) (x : ℕ) (l : x ≤ 1) where
+module _ (hs : List ℕ) (g : Given) (n w : ℕ) (s : Stood hs g (5 + 2 * n) w) (most : n ≤ 28) (x : ℕ) (l : x ≤ 1) where
   pub first-told : Told (hs ++ x ∷ []) (goes g (5 + 2 * n + 1) w)
   first-told =
       step-told hs g (5 + 2 * n) w s x (goes g (5 + 2 * n + 1) w)
-      (step-first g (pastOf hs) (5 + 2 * n) w x (valid hs g (5 + 2 * n) w s) l (omega arith) (omega arith))
+      (step-first g (pastOf hs) (5 + 2 * n) w x (valid hs g (5 + 2 * n) w s) l (omega arith) (omega arith) (omega arith))
 
   half : Stood (hs ++ x ∷ []) g (5 + 2 * n + 1) w
   half = told-stands (hs ++ x ∷ []) (goes g (5 + 2 * n + 1) w) first-told
 
-  pub equal-told : Told (hs ++ x ∷ x ∷ []) (breaks BrokenPair)
+  half-valid : receiverOk (standing g (pastOf (hs ++ x ∷ [])) (5 + 2 * n + 1) w) ≡ true
+  half-valid = valid (hs ++ x ∷ []) g (5 + 2 * n + 1) w half
+
+  pub equal-told : Told (hs ++ x ∷ x ∷ []) (λ p. says BrokenPair (broken p (5 + 2 * n + 1)))
   equal-told =
       let ks = hs ++ x ∷ [] in
-      told-by (breaks BrokenPair) (append-assoc hs (x ∷ []) (x ∷ []))
-      (step-told ks g (5 + 2 * n + 1) w half x (breaks BrokenPair)
-      (step-equal g (pastOf ks) (5 + 2 * n + 1) w x (valid ks g (5 + 2 * n + 1) w half) l (omega arith) (omega arith) (six-half hs x l)))
+      let f : ℕ → Heard = λ p. says BrokenPair (broken p (5 + 2 * n + 1)) in
+      told-by f (append-assoc hs (x ∷ []) (x ∷ []))
+      (step-told ks g (5 + 2 * n + 1) w half x f
+      (step-equal g (pastOf ks) (5 + 2 * n + 1) w x half-valid l (omega arith) (omega arith) (omega arith) (six-half hs x l)))
 
   pub pair-told : w < 2 ^ 28 → Told (hs ++ x ∷ (1 - x) ∷ []) (brings hs g n w x)
   pair-told low =
@@ -170,5 +174,5 @@ module _ (hs : List ℕ) (g : Given) (n w : ℕ) (s : Stood hs g (5 + 2 * n) w) 
       let bits : w % 2 ^ 28 * 2 + pastOf ks % 2 ≡ w * 2 + x = omega arith in
       told-by (brings hs g n w x) (append-assoc hs (x ∷ []) ((1 - x) ∷ []))
       (step-told ks g (5 + 2 * n + 1) w half (1 - x) (brings hs g n w x)
-      (step-second g (pastOf ks) (5 + 2 * n + 1) w (1 - x) (valid ks g (5 + 2 * n + 1) w half) (omega arith) (omega arith) (omega arith) (λ q. omega arith)
+      (step-second g (pastOf ks) (5 + 2 * n + 1) w (1 - x) half-valid (omega arith) (omega arith) (omega arith) (omega arith) (λ q. omega arith)
       ∙ ap (λ (b : ℕ). pairOf (standing g (pastOf ks) (5 + 2 * n + 1) w) b (shifted (pastOf ks) (1 - x))) bits))

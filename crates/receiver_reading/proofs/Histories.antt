@@ -5,20 +5,22 @@
 --     six-more, six-low, six-half, six-bits              the last six: after one more half-cycle, of six bits
 --     forgets                                            what is older than six half-cycles does not count
 --     ends-append, ends-drop, ends-six                   the ends of a list
---     begins, begun-seven                                a frame begins exactly where the six are 0 0 0 1 1 1, and then 0
+--     seven-ends, ends-seven                             it ends in 0 0 0 1 1 1 0 exactly where the six are 0 0 0 1 1 1, and then 0 comes
+--     start-ends, ends-start                             and a longer one in 1 1 1 0 where the latest three are 1 1 1, and then 0 comes
 use Prim.Native.Nat.{ℕ, zero, suc, _+_, _-_, _*_, _/_, _%_, _^_, _≤_, _<_}
+use mathlib.Core.Logic.{_⊎_, inl, inr, ⊎-elim}
 use mathlib.Core.Path.{_≡_, sym, ap, ap₂, subst, _∙_}
 use mathlib.Core.List.{List, [], _∷_, _++_, append-assoc, append-nil, reverse, reverse-append, reverse-reverse, head-eq-of-cons-eq, tail-eq-of-cons-eq}
 use native.Mathlib.Decide.{ℕ-discrete}
 use native.Mathlib.Numerals.{add-one}
 use native.Mathlib.Omega.{arith}
-use lib.ListN.{length}
+use lib.ListN.{length, length-append}
 use lib.Pow.{mod-pow-add, mod-mod-pow}
 use Rattle.burst.specs.Frames.{bitsOf, pairsOf}
 use Rattle.receiver.specs.Receivers.{shifted}
 use Rattle.receiver_laws.specs.Whole.{lastSix}
-use Rattle.receiver_laws.proofs.Pasts.{six-append, Bits}
-use Rattle.receiver_reading.specs.Reading.{EndsIn, Begins}
+use Rattle.receiver_laws.proofs.Pasts.{six-append, three-more, Bits}
+use Rattle.receiver_reading.specs.Reading.{EndsIn, startMark, huntedStart}
 use Rattle.receiver_reading.specs.Standing.{pastOf}
 use Rattle.receiver_reading.proofs.Words.{bits-last, low-less}
 
@@ -136,28 +138,43 @@ ones : (n : ℕ) → n ≤ 6 → 63 % 2 ^ n + 1 ≡ 2 ^ n
 ones zero l = omega arith
 ones (suc n) l = let k = kept 63 1 n (omega arith) (omega arith) in let e = ones n (omega arith) in omega (arith, k, e)
 
--- the n latest are the bits of v, of which the oldest is 0: then the list ends in them
-ends-bits : (n v : ℕ) (hs : List ℕ) → n ≤ 6 → v * 2 < 2 ^ n → Bits hs → pastOf hs % 2 ^ n ≡ v → EndsIn (bitsOf n v) hs
+-- the n latest are the bits of v, of which the oldest is 0, or as many have come: then the list ends in them
+ends-bits : (n v : ℕ) (hs : List ℕ) → n ≤ 6 → (v * 2 < 2 ^ n) ⊎ (n ≤ length hs) → Bits hs → pastOf hs % 2 ^ n ≡ v → EndsIn (bitsOf n v) hs
 unfolding bitsOf lastSix
 ends-bits zero v hs l low b e = (hs, append-nil hs)
-ends-bits (suc n) v hs l low b e = go (last-of hs b) (λ ks c q. ends-bits n (v / 2) ks (omega arith) (omega arith) c q) e
+ends-bits (suc n) v hs l low b e = go (last-of hs b) (λ ks m c q. ends-bits n (v / 2) ks (omega arith) m c q) low e
   where
-    go : {ks : List ℕ} → Last ks → ((ls : List ℕ) → Bits ls → pastOf ls % 2 ^ n ≡ v / 2 → EndsIn (bitsOf n (v / 2)) ls)
-        → pastOf ks % 2 ^ suc n ≡ v → EndsIn (bitsOf (suc n) v) ks
-    go none i q = absurd (omega (arith, ones (suc n) l))
-    go (some ks h bs c) i q =
+    go : {ks : List ℕ} → Last ks
+        → ((ls : List ℕ) → (v / 2 * 2 < 2 ^ n) ⊎ (n ≤ length ls) → Bits ls → pastOf ls % 2 ^ n ≡ v / 2 → EndsIn (bitsOf n (v / 2)) ls)
+        → (v * 2 < 2 ^ suc n) ⊎ (suc n ≤ length ks) → pastOf ks % 2 ^ suc n ≡ v → EndsIn (bitsOf (suc n) v) ks
+    go none i (inl m) q = absurd (omega (arith, ones (suc n) l))
+    go none i (inr m) q = absurd (omega arith)
+    go (some ks h bs c) i m q =
         let k : pastOf ks % 2 ^ n * 2 + h ≡ v = sym (kept (pastOf ks) h n c (omega arith)) ∙ ap (λ (x : ℕ). x % 2 ^ suc n) (sym (six-more ks h)) ∙ q in
         let bit : v % 2 ≡ h = omega arith in
         let half : pastOf ks % 2 ^ n ≡ v / 2 = omega arith in
-        rw (bits-last n v, bit) (ends-append (bitsOf n (v / 2)) (h ∷ []) ks (i ks bs half))
+        let known : (v / 2 * 2 < 2 ^ n) ⊎ (n ≤ length ks) = ⊎-elim (λ x. inl (omega arith)) (λ x. inr (omega (arith, length-append ks (h ∷ [])))) m in
+        rw (bits-last n v, bit) (ends-append (bitsOf n (v / 2)) (h ∷ []) ks (i ks known bs half))
 
-pub begins : (hs : List ℕ) → Bits hs → pastOf hs ≡ 7 → Begins (hs ++ 0 ∷ [])
+pub seven-ends : (hs : List ℕ) → Bits hs → pastOf hs ≡ 7 → EndsIn huntedStart (hs ++ 0 ∷ [])
 unfolding bitsOf
-begins hs b e = ends-append (0 ∷ 0 ∷ 0 ∷ 1 ∷ 1 ∷ 1 ∷ []) (0 ∷ []) hs (ends-bits 6 7 hs (omega arith) (omega arith) b (omega arith))
+seven-ends hs b e = ends-append (0 ∷ 0 ∷ 0 ∷ 1 ∷ 1 ∷ 1 ∷ []) (0 ∷ []) hs (ends-bits 6 7 hs (omega arith) (inl (omega arith)) b (omega arith))
 
-pub begun-seven : (hs : List ℕ) (h : ℕ) → Begins (hs ++ h ∷ []) → (pastOf hs ≡ 7) × (h ≡ 0)
+pub ends-seven : (hs : List ℕ) (h : ℕ) → EndsIn huntedStart (hs ++ h ∷ []) → (pastOf hs ≡ 7) × (h ≡ 0)
 unfolding lastSix
-begun-seven hs h e =
+ends-seven hs h e =
     let xs : List ℕ = 0 ∷ 0 ∷ 0 ∷ 1 ∷ 1 ∷ 1 ∷ [] in
     let s = last-same (e .0 ++ xs) hs 0 h (append-assoc (e .0) xs (0 ∷ []) ∙ e .1) in
     (ap pastOf (sym (s .0)) ∙ forgets (e .0) xs (omega arith) (omega arith), sym (s .1))
+
+pub start-ends : (hs : List ℕ) → Bits hs → 3 ≤ length hs → pastOf hs % 8 ≡ 7 → EndsIn startMark (hs ++ 0 ∷ [])
+unfolding bitsOf
+start-ends hs b l e = ends-append (1 ∷ 1 ∷ 1 ∷ []) (0 ∷ []) hs (ends-bits 3 7 hs (omega arith) (inr l) b e)
+
+pub ends-start : (hs : List ℕ) (h : ℕ) → EndsIn startMark (hs ++ h ∷ []) → (pastOf hs % 8 ≡ 7) × (h ≡ 0)
+unfolding lastSix
+ends-start hs h e =
+    let xs : List ℕ = 1 ∷ 1 ∷ 1 ∷ [] in
+    let s = last-same (e .0 ++ xs) hs 0 h (append-assoc (e .0) xs (0 ∷ []) ∙ e .1) in
+    let six : pastOf hs ≡ pastOf (e .0) % 8 * 8 + 7 = ap pastOf (sym (s .0)) ∙ six-append 63 (e .0) xs ∙ three-more (pastOf (e .0)) 1 1 1 (omega arith) in
+    (omega (arith, six), sym (s .1))

@@ -1,5 +1,6 @@
 pub mod Words
 pub mod Histories
+pub mod Starts
 pub mod Answers
 pub mod States
 pub mod Standing

@@ -19,9 +19,8 @@ use Rattle.receiver.specs.declared.Event.{Event}
 use Rattle.receiver.specs.declared.Event.the-variants.{Nothing, Message as Gives, Repeat}
 use Rattle.receiver.specs.declared.Heard.{Heard}
 use Rattle.receiver_laws.proofs.Pasts.{Bits}
-use Rattle.receiver_reading.specs.Reading.{startMark, pairs, said, At, awaited, message, repeated, equal, unsupported}
+use Rattle.receiver_reading.specs.Reading.{startMark, pairs, said, At, awaited, message, repeated, broken, unsupported}
 use Rattle.receiver_reading.specs.Reading.{heardAt, FrameEnds, SaysWhatEnds, Read}
-use Rattle.receiver_reading.proofs.Histories.{bits-append}
 use Rattle.receiver_reading.proofs.Answers.{answer, state, answer-more, state-after, taken-bits, refuses, state-taken}
 use Rattle.receiver_reading.proofs.States.{valid-message, message-ends, where-at}
 use Rattle.receiver_reading.proofs.Standing.{Step, ends, quiet, last-step}
@@ -32,7 +31,7 @@ use Rattle.receiver_reading.proofs.Standing.{Step, ends, quiet, last-st
 something : {e : Event} {hs : List ℕ} → At (said e) hs → e ≢ Nothing
 something (message m a ok n) q = false≢true cc
 something (repeated a) q = false≢true cc
-something (equal n w x a low u l) q = false≢true cc
+something (broken a) q = false≢true cc
 something (unsupported w a c) q = false≢true cc
 
 -- a message's pairs end where they followed a start
@@ -72,7 +71,7 @@ module _ (hs : List ℕ) (h : ℕ) (bits : Bits hs) (l : h ≤ 1) where
 
   -- what ends is said
   whole : (e : Event) → At (said e) ks → heard ≡ e
-  whole e a = ap (λ (o : Heard). o .event) (where-at a (bits-append hs (h ∷ []) bits (l, tt)))
+  whole e a = where-at a .0
 
   -- nothing else is
   sound : (e : Event) → e ≢ Nothing → heard ≡ e → At (said e) ks

@@ -6,15 +6,15 @@
 --     all-stand                    every list of 0 and 1 stands somewhere
 --     last-step                    and what its last half-cycle was
 --     every-history-stands         the theorem of specs/Standing.antt
-use Prim.Native.Nat.{ℕ, zero, suc, _+_, _-_, _*_, _/_, _%_, _^_, _≤_, _<_}
+use Prim.Native.Nat.{ℕ, suc, _+_, _-_, _*_, _/_, _%_, _^_, _≤_, _<_}
 use mathlib.Core.Logic.{inl, inr}
 use mathlib.Core.Path.{_≡_, refl, sym, ap, ap₂, subst, _∙_}
-use mathlib.Core.Bool.{Bool, true, false, false≢true}
+use mathlib.Core.Bool.{Bool, true, false, false≢true, _||_}
 use mathlib.Core.List.{List, [], _∷_, _++_, append-assoc, append-nil}
 use native.Mathlib.Decide.{ℕ-discrete, decLe}
 use native.Mathlib.Omega.{arith}
 use lib.Dec.{eqb}
-use lib.ListN.{getD, take}
+use lib.ListN.{length, getD, take}
 use lib.Seq.{take-suc}
 use Rattle.message.specs.Messages.{messageOk, sameMessage}
 use Rattle.message.specs.Words.{wordOf, bitCount, standardOf, extendedOf}
@@ -22,7 +22,7 @@ use Rattle.message.specs.declared.Message.{Message}
 use Rattle.message.specs.declared.word.Reading.{Reading}
 use Rattle.message.specs.declared.word.Reading.the-variants.{Message as Says, Longer, Unsupported, Refused as NotRead}
 use Rattle.message.proofs.CodeLaws.{same-is-equal}
-use Rattle.receiver.specs.Receivers.{freshReceiver}
+use Rattle.receiver.specs.Receivers.{freshReceiver, startHunted, startWaited}
 use Rattle.receiver.specs.Hearing.{receiverAfter, taken}
 use Rattle.receiver.specs.declared.Given.{Given}
 use Rattle.receiver.specs.declared.Given.the-variants.{No, Yes}
@@ -31,35 +31,34 @@ use Rattle.receiver.specs.declared.Event.{Event}
 use Rattle.receiver.specs.declared.Event.the-variants.{Nothing, Message as Gives}
 use Rattle.receiver.specs.declared.Heard.{Heard}
 use Rattle.receiver.proofs.ReceiverLaws.{nineOk, nine-ok}
-use Rattle.receiver_laws.proofs.Steps.{standing, no-start-one, no-start-past}
+use Rattle.receiver_laws.proofs.Steps.{standing}
 use Rattle.receiver_laws.proofs.Pasts.{Bits}
-use Rattle.receiver_reading.specs.Reading.{startMark, pairs, Unfinished, idle, begun, said}
-use Rattle.receiver_reading.specs.Reading.{At, fresh, hunts, lapses, follows, hunted, awaited, message, repeated, equal, unsupported}
-use Rattle.receiver_reading.specs.Standing.{pastOf, StandsAfter, idles, awaits, reads, halfway, EveryHistoryStands}
-use Rattle.receiver_reading.proofs.Words.{pairs-none, pairs-more, low-more, unfinished-more, unfinished-last, WordIs, word-of-nine, word-of-all}
-use Rattle.receiver_reading.proofs.Words.{longer-code, unsupported-code}
-use Rattle.receiver_reading.proofs.Histories.{bits-append, bits-front, begins, begun-seven}
+use Rattle.receiver_reading.specs.Reading.{startMark, pairs, Unfinished, Broke, idle, begun, said}
+use Rattle.receiver_reading.specs.Reading.{At, fresh, hunts, lapses, follows, resumes, hunted, awaited, message, repeated, equal, broken, unsupported}
+use Rattle.receiver_reading.specs.Standing.{pastOf, placeOf, StandsAfter, idles, awaits, reads, halfway, EveryHistoryStands}
+use Rattle.receiver_reading.proofs.Words.{pairs-none, pairs-more, low-more, unfinished-low, unfinished-more, unfinished-last}
+use Rattle.receiver_reading.proofs.Words.{WordIs, word-of-nine, word-of-all, longer-code, unsupported-code}
+use Rattle.receiver_reading.proofs.Starts.{place-hunts, begins-found, found-begins}
 use Rattle.receiver_reading.proofs.Answers.{answer, state, state-after, taken-bits, state-taken, Told, Stood, goes, told-stands, stood-by}
-use Rattle.receiver_reading.proofs.Answers.{hunt-told, start-told, first-told}
-use Rattle.receiver_reading.proofs.States.{reading-stood, reading-told, await-stood, await-told, lapse-told, given-stood, where-at}
+use Rattle.receiver_reading.proofs.Answers.{start-told, first-told}
+use Rattle.receiver_reading.proofs.States.{reading-stood, reading-told, await-stood, await-told, lapse-told, at-bits, since, hunts-told, where-at}
 
 -- ---- the state at each place
 
-half-stood : (hs : List ℕ) (g : Given) → Stood hs g 5 0 → (n w x : ℕ) → w < 2 ^ n → Unfinished n w → x ≤ 1
+pub half-stood : (hs : List ℕ) (g : Given) → Stood hs g 5 0 → (n w x : ℕ) → w < 2 ^ n → Unfinished n w → x ≤ 1
     → Stood (hs ++ (pairs n w ++ x ∷ [])) g (6 + 2 * n) w
 half-stood hs g s n w x low u l =
     let ks = hs ++ pairs n w in
     let next : 5 + 2 * n + 1 ≡ 6 + 2 * n = omega arith in
     stood-by g (6 + 2 * n) w (append-assoc hs (pairs n w) (x ∷ []))
-    (told-stands (ks ++ x ∷ []) (goes g (5 + 2 * n + 1) w) (first-told ks g n w (reading-stood hs g s n w low u) x l)
+    (told-stands (ks ++ x ∷ []) (goes g (5 + 2 * n + 1) w) (first-told ks g n w (reading-stood hs g s n w low u) (unfinished-low n w u) x l)
     ∙ ap (λ (a : ℕ). standing g (pastOf (ks ++ x ∷ [])) a w) next)
 
-pub stands-state : {hs : List ℕ} {r : Receiver} → StandsAfter hs r → Bits hs → state hs ≡ r
-stands-state (idles at) b = where-at at b
-stands-state (awaits {hs} {m} k at l) b =
-    await-stood m hs at (given-stood m hs (where-at at (bits-front hs (take k startMark) b))) k (omega arith)
-stands-state (reads {hs} {g} n w at low u) b = reading-stood hs g (where-at at (bits-front hs (pairs n w) b)) n w low u
-stands-state (halfway {hs} {g} n w x at low u l) b = half-stood hs g (where-at at (bits-front hs (pairs n w ++ x ∷ []) b)) n w x low u l
+pub stands-state : {hs : List ℕ} {r : Receiver} → StandsAfter hs r → state hs ≡ r
+stands-state (idles at) = where-at at
+stands-state (awaits {hs} {m} k at l) = await-stood m hs at (where-at at .1) k (omega arith)
+stands-state (reads {hs} {g} n w at low u) = reading-stood hs g (where-at at) n w low u
+stands-state (halfway {hs} {g} n w x at low u l) = half-stood hs g (where-at at) n w x low u l
 
 -- ---- at one of the places, whichever
 
@@ -82,26 +81,25 @@ quietly g a w t s = quiet (ap (λ (o : Heard). o .event) t) s
 
 -- ---- hunting
 
-module _ (hs : List ℕ) (bits : Bits hs) (at : At idle hs) where
-  hunting-stood : Stood hs No 0 0
-  hunting-stood = where-at at bits
+module _ (hs : List ℕ) (o : Broke) (at : At (idle o) hs) where
+  hunting-stood : Stood hs No (placeOf o (length hs)) 0
+  hunting-stood = where-at at
 
+  -- a start is found, or none
   idle-step : (h : ℕ) → h ≤ 1 → Step (hs ++ h ∷ [])
-  idle-step zero l = go (ℕ-discrete (pastOf hs) 7)
+  idle-step h l = go (startHunted (pastOf hs) h || startWaited (pastOf hs) (placeOf o (length hs)) h) refl
     where
-      go : Dec (pastOf hs ≡ 7) → Step (hs ++ 0 ∷ [])
-      go (yes e) =
-          quietly No 5 0 (start-told hs hunting-stood e)
-          (stands-by (pairs-none (hs ++ 0 ∷ []) 0) (stands (reads 0 0 (hunted 0 at (begins hs bits e)) (omega arith) (inl (omega arith)))))
-      go (no n) =
-          quietly No 0 0 (hunt-told hs hunting-stood 0 l (no-start-past (pastOf hs) 0 n)) (stands (idles (hunts 0 at l (λ b. n (begun-seven hs 0 b .0)))))
-  idle-step (suc zero) l =
-      quietly No 0 0 (hunt-told hs hunting-stood 1 l (no-start-one (pastOf hs))) (stands (idles (hunts 1 at l (λ b. omega (arith, begun-seven hs 1 b .1)))))
-  idle-step (suc (suc h)) l = absurd (omega arith)
+      go : (c : Bool) → (startHunted (pastOf hs) h || startWaited (pastOf hs) (placeOf o (length hs)) h) ≡ c → Step (hs ++ h ∷ [])
+      go true f =
+          quietly No 5 0 (start-told hs (placeOf o (length hs)) hunting-stood (place-hunts o (length hs)) h l f)
+          (stands-by (pairs-none (hs ++ h ∷ []) 0) (stands (reads 0 0 (hunted h at (found-begins hs h (at-bits at) o f)) (omega arith) (inl (omega arith)))))
+      go false n =
+          quietly No (placeOf o (length (hs ++ h ∷ []))) 0 (hunts-told o hs h (since at) hunting-stood l n)
+          (stands (idles (hunts h at l (λ b. false≢true (sym n ∙ begins-found hs h o b)))))
 
 -- ---- the awaited start
 
-module _ (hs : List ℕ) (m : Message) (bits : Bits hs) (at : At (said (Gives m)) hs) where
+module _ (hs : List ℕ) (m : Message) (at : At (said (Gives m)) hs) where
   -- k of its half-cycles came
   start-stands : (k : ℕ) → k ≤ 4 → Somewhere (hs ++ take k startMark)
   start-stands k l = go (decLe k 3)
@@ -117,7 +115,7 @@ module _ (hs : List ℕ) (m : Message) (bits : Bits hs) (at : At (said (Gives m)
   await-step k h l b = go (ℕ-discrete h (getD startMark k 0))
     where
       s : Stood hs (Yes m) 1 0
-      s = given-stood m hs (where-at at bits)
+      s = where-at at .1
 
       go : Dec (h ≡ getD startMark k 0) → Step (hs ++ (take k startMark ++ h ∷ []))
       go (yes e) =
@@ -137,13 +135,13 @@ completes hs (Yes k) m at ok = go (sameMessage k m) refl
     go true e = ends (repeated (subst (λ (n : Message). At (begun (Yes n)) hs) (same-is-equal k m .0 e) at))
     go false e = ends (message m at ok (λ q. let same : k ≡ m = cc in false≢true (sym e ∙ same-is-equal k m .1 same)))
 
-module _ (hs : List ℕ) (g : Given) (bits : Bits hs) (at : At (begun g) hs) where
+module _ (hs : List ℕ) (g : Given) (at : At (begun g) hs) where
   frame-stood : Stood hs g 5 0
-  frame-stood = where-at at bits
+  frame-stood = where-at at
 
   first-step : (n w h : ℕ) → w < 2 ^ n → Unfinished n w → h ≤ 1 → Step ((hs ++ pairs n w) ++ h ∷ [])
   first-step n w h low u l =
-      quietly g (5 + 2 * n + 1) w (first-told (hs ++ pairs n w) g n w (reading-stood hs g frame-stood n w low u) h l)
+      quietly g (5 + 2 * n + 1) w (first-told (hs ++ pairs n w) g n w (reading-stood hs g frame-stood n w low u) (unfinished-low n w u) h l)
       (stands-by (sym (append-assoc hs (pairs n w) (h ∷ []))) (stands (halfway n w h at low u l)))
 
   -- the pair with which there are the bits of w
@@ -181,7 +179,7 @@ module _ (hs : List ℕ) (g : Given) (bits : Bits hs) (at : At (begun g) hs) whe
   second-step n w x h low u l b = go (ℕ-discrete x h)
     where
       go : Dec (x ≡ h) → Step (hs ++ (pairs n w ++ x ∷ h ∷ []))
-      go (yes e) = rw (sym e) (ends (equal n w x at low u l))
+      go (yes e) = rw (sym e) (ends (broken (equal n w x at low u l)))
       go (no d) =
           let other : 1 - x ≡ h = omega arith in
           let half : w ≡ (w * 2 + x) / 2 = omega arith in
@@ -191,22 +189,21 @@ module _ (hs : List ℕ) (g : Given) (bits : Bits hs) (at : At (begun g) hs) whe
 
 -- ---- every half-cycle
 
-one-more : {hs : List ℕ} {r : Receiver} → StandsAfter hs r → Bits hs → (h : ℕ) → h ≤ 1 → Step (hs ++ h ∷ [])
-one-more (idles {hs} at) bits h b = idle-step hs bits at h b
-one-more (awaits {hs} {m} k at l) bits h b =
-    step-by (sym (append-assoc hs (take k startMark) (h ∷ []))) (await-step hs m (bits-front hs (take k startMark) bits) at k h l b)
-one-more (reads {hs} {g} n w at low u) bits h b = first-step hs g (bits-front hs (pairs n w) bits) at n w h low u b
-one-more (halfway {hs} {g} n w x at low u l) bits h b =
+one-more : {hs : List ℕ} {r : Receiver} → StandsAfter hs r → (h : ℕ) → h ≤ 1 → Step (hs ++ h ∷ [])
+one-more (idles {hs} {o} at) h b = idle-step hs o at h b
+one-more (awaits {hs} {m} k at l) h b = step-by (sym (append-assoc hs (take k startMark) (h ∷ []))) (await-step hs m at k h l b)
+one-more (reads {hs} {g} n w at low u) h b = first-step hs g at n w h low u b
+one-more (halfway {hs} {g} n w x at low u l) h b =
     let ps = pairs n w ++ x ∷ [] in
     step-by (ap (λ (l : List ℕ). hs ++ l) (sym (append-assoc (pairs n w) (x ∷ []) (h ∷ []))) ∙ sym (append-assoc hs ps (h ∷ [])))
-    (second-step hs g (bits-front hs ps bits) at n w x h low u l b)
+    (second-step hs g at n w x h low u l b)
 
 -- and after what ends there
 said-stands : {e : Event} {hs : List ℕ} → At (said e) hs → Somewhere hs
 said-stands (message {hs} m a ok n) =
     stands-by (append-nil (hs ++ pairs (bitCount m) (wordOf m))) (stands (awaits 0 (message m a ok n) (omega arith)))
 said-stands (repeated a) = stands (idles (follows tt (repeated a)))
-said-stands (equal n w x a low u l) = stands (idles (follows tt (equal n w x a low u l)))
+said-stands (broken a) = stands (idles (resumes a))
 said-stands (unsupported w a c) = stands (idles (follows tt (unsupported w a c)))
 
 next : {hs : List ℕ} → Step hs → Somewhere hs
@@ -214,22 +211,20 @@ next (ends a) = said-stands a
 next (quiet e s) = s
 
 -- where a history stands, the receiver does
-module _ (hs : List ℕ) (b : Bits hs) where
-  receiver-stands : Somewhere hs → StandsAfter hs (state hs)
-  receiver-stands (stands s) = subst (λ (r : Receiver). StandsAfter hs r) (sym (stands-state s b)) s
+receiver-stands : {hs : List ℕ} → Somewhere hs → StandsAfter hs (state hs)
+receiver-stands {hs} (stands s) = subst (λ (r : Receiver). StandsAfter hs r) (sym (stands-state s)) s
 
-stands-from : (ks hs : List ℕ) → Bits ks → Bits hs → StandsAfter ks (state ks) → StandsAfter (ks ++ hs) (state (ks ++ hs))
-stands-from ks [] a b s = subst (λ (l : List ℕ). StandsAfter l (state l)) (sym (append-nil ks)) s
-stands-from ks (h ∷ hs) a b s =
-    let c = bits-append ks (h ∷ []) a (b .0, tt) in
+stands-from : (ks hs : List ℕ) → Bits hs → StandsAfter ks (state ks) → StandsAfter (ks ++ hs) (state (ks ++ hs))
+stands-from ks [] b s = subst (λ (l : List ℕ). StandsAfter l (state l)) (sym (append-nil ks)) s
+stands-from ks (h ∷ hs) b s =
     subst (λ (l : List ℕ). StandsAfter l (state l)) (append-assoc ks (h ∷ []) hs)
-    (stands-from (ks ++ h ∷ []) hs c (b .1) (receiver-stands (ks ++ h ∷ []) c (next (one-more s a h (b .0)))))
+    (stands-from (ks ++ h ∷ []) hs (b .1) (receiver-stands (next (one-more s h (b .0)))))
 
 all-stand : (hs : List ℕ) → Bits hs → StandsAfter hs (state hs)
-all-stand hs b = stands-from [] hs tt b (receiver-stands [] tt (stands (idles fresh)))
+all-stand hs b = stands-from [] hs b (receiver-stands (stands (idles fresh)))
 
 pub last-step : (hs : List ℕ) (h : ℕ) → Bits hs → h ≤ 1 → Step (hs ++ h ∷ [])
-last-step hs h b l = one-more (all-stand hs b) b h l
+last-step hs h b l = one-more (all-stand hs b) h l
 
 pub every-history-stands : EveryHistoryStands
 every-history-stands hs =

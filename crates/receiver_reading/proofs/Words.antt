@@ -3,7 +3,7 @@
 --
 --     bits-last, pairs-none, pairs-last, pairs-more     one bit more: of a number's bits, of its pairs
 --     low-more, low-less, low-word                      and how large the number then is
---     unfinished-more, unfinished-less, unfinished-last     whether more pairs follow
+--     unfinished-low, unfinished-more, unfinished-less, unfinished-last     whether more pairs follow
 --     before-last                                       a message is unfinished before its last bit
 --     WordIs, word-of-nine, word-of-all                 what bits say has these bits
 --     longer-code, code-longer                          nine bits that begin a longer frame
@@ -74,7 +74,7 @@ low-less n w h = omega arith
 
 -- ---- whether more pairs follow
 
-unfinished-low : (n w : ℕ) → Unfinished n w → n ≤ 28
+pub unfinished-low : (n w : ℕ) → Unfinished n w → n ≤ 28
 unfinished-low n w (inl h) = omega arith
 unfinished-low n w (inr h) = h .1
 

@@ -375,7 +375,7 @@ module _ (l : Lending) (room : Room) {v : RoomJudged} (judged-so : v ≡ roomVer
 -- a receiver put into bytes that held one
 pub put-held : (state : List ℕ) (q next : Receiver) → receiverIn state ≡ Is q → receiverOk next ≡ true → putAfter next state ≡ receiverBytes next
 unfolding putAfter judged
-put-held state q next is ok = rw (eq-eqb (length state) 11 (held-length state q is), ok) refl
+put-held state q next is ok = rw (eq-eqb (length state) 13 (held-length state q is), ok) refl
 
 pub mains-order : MainsOrder
 mains-order l room = refl

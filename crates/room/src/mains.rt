@@ -217,7 +217,7 @@ fn heed_all(
     }
 }
 
-// Hands half-cycles to the receiver in eleven lent bytes, one after the other, and applies each message that it gives to a room's tables
+// Hands half-cycles to the receiver in thirteen lent bytes, one after the other, and applies each message that it gives to a room's tables
 // before the next. Each half-cycle leaves the six bytes of its event and the eight of what the tables answered. Answers how many modules have
 // another level and how many shutters another opening than before. Refused, it changes nothing.
 // Refused, in this order: 1, 16, 3, 17, 6, 9.

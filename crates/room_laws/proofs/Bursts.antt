@@ -19,7 +19,7 @@ use Rattle.ground.proofs.Causes.{judged-map}
 use Rattle.message.specs.Messages.{messageOk}
 use Rattle.message.specs.declared.Message.{Message}
 use Rattle.burst.specs.Frames.{frameLength, burstOf}
-use Rattle.receiver.specs.Receivers.{freshReceiver, hunting, shifted}
+use Rattle.receiver.specs.Receivers.{freshReceiver, hunting}
 use Rattle.receiver.specs.Hearing.{eventsOf}
 use Rattle.receiver.proofs.ReceiverLaws.{fresh-is-valid}
 use Rattle.receiver.specs.declared.Receiver.{Receiver}
@@ -29,7 +29,7 @@ use Rattle.receiver_laws.specs.Whole.{clear, lastSix, frameEvents, burstEvents}
 use Rattle.receiver_laws.specs.Inversion.{told}
 use Rattle.receiver_laws.proofs.Runs.{Run, run-more}
 use Rattle.receiver_laws.proofs.Pasts.{six-append, clean-burst}
-use Rattle.receiver_laws.proofs.Rests.{Rests, rests-hunting, rests-fresh, rests-step, rests-next, rests-ready}
+use Rattle.receiver_laws.proofs.Rests.{Rests, rests-hunting, rests-fresh, rested, rests-step, rests-next, rests-ready}
 use Rattle.receiver_laws.proofs.Told.{tells-run}
 use Rattle.receiver_laws.proofs.Whole.{every-burst-is-heard}
 use Rattle.receiver.specs.Bytes.{isReceiver, receiverBytes, eventsBy, eventsHeard}
@@ -94,11 +94,12 @@ heard-on m valid r zero h l = absurd (omega arith)
 heard-on m valid r (suc zero) h l = absurd (omega arith)
 heard-on m valid r (suc (suc zero)) h l = absurd (omega arith)
 heard-on m valid r (suc (suc (suc y))) h l =
-    let p = shifted (shifted (shifted (r .past) 0) 0) 0 in
+    let s = rested (rested (rested r)) in
+    let p = s .past in
     let one = rests-next h in
     let two = rests-next one in
     let three = rests-next two in
-    let hears = every-burst-is-heard m valid .ready (hunting p) y (rests-ready 3 (hunting p) (omega arith) three) in
+    let hears = every-burst-is-heard m valid .ready s y (rests-ready 3 s (omega arith) three) in
     let clean = clean-burst m (lastSix p (clear y)) in
     record {
       stands = hunting (lastSix p (clear y ++ burstOf m));

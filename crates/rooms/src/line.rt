@@ -11,17 +11,17 @@ pub(crate) const LINE: usize = 127;
 // The bytes of their answers.
 pub(crate) const ANSWERS: usize = LINE * 8;
 
-// A room, the receiver that listens to the mains for it, in its eleven bytes, and what the tables answered to the half-cycles of the last
+// A room, the receiver that listens to the mains for it, in its thirteen bytes, and what the tables answered to the half-cycles of the last
 // line.
 pub(crate) struct Listening {
     pub(crate) room: Room,
-    pub(crate) state: [u8; 11],
+    pub(crate) state: [u8; 13],
     pub(crate) answers: [u8; ANSWERS],
 }
 
 // A room whose receiver has heard nothing.
 pub(crate) fn listen(room: Room) -> Listening {
-    let mut state = [0u8; 11];
+    let mut state = [0u8; 13];
     receiver::lent::fresh(&mut state);
     let answers = [0u8; ANSWERS];
     Listening {

@@ -4,8 +4,14 @@
 // frames. data/two_clear has the burst after two clear half-cycles, which is not heard, and after three. data/m13 is a lone frame of M13
 // whose start has its last half-cycle inverted, a clear line, and the burst of M13; a receiver that takes 1110 anywhere as a start would
 // hear J status request in the first. data/badbyte has a byte that is none of 0, 1, 10 and 13. data/in_frame ends within a frame, and
-// data/half_a_burst within the second frame of a burst. data/damaged has a burst whose first copy is damaged, which is lost, and then a
-// whole one. data/dense is longer than one read and has more lines than one buffer: 4,400 equal pairs, a clear line, and the burst of A1.
+// data/half_a_burst within the second frame of a burst. data/dense is longer than one read and has more lines than one buffer: 4,400 equal pairs,
+// a clear line, and the burst of A1.
+//
+// These have bursts with one half-cycle inverted. data/damaged: in the first copy of A1, whose second copy is heard; a whole burst follows.
+// data/damaged_extended: in the first copy of B2 C5 31, once in its second pair, so that s+22 holds no start and s+62 does, and once in its tenth.
+// data/damaged_second: in the second copy of A1; the burst of A on, which the hunt finds while it waits, is damaged in the ninth pair of its first copy.
+// data/damaged_start: in the first copy's start, with which nothing is heard of the burst, and in the second's. data/unsupported has a frame with code 10,
+// after which no start is waited for.
 use libc::STDOUT_FILENO;
 use trace_lines::SIZE;
 use trace_lines::run::Outcome;
@@ -93,6 +99,10 @@ fn main() {
     trace_in_pieces(b"in_frame");
     trace_in_pieces(b"half_a_burst");
     trace_in_pieces(b"damaged");
+    trace_in_pieces(b"damaged_extended");
+    trace_in_pieces(b"damaged_second");
+    trace_in_pieces(b"damaged_start");
+    trace_in_pieces(b"unsupported");
     trace_whole(b"dense");
     // A folder opens and cannot be read.
     trace_whole(b".");

@@ -76,7 +76,7 @@ pub extern "C" fn x10_burst(
     }
 }
 
-// Makes eleven lent bytes a receiver that hunts and has received nothing. Refused 6.
+// Makes thirteen lent bytes a receiver that hunts and has received nothing. Refused 6.
 #[no_mangle]
 pub extern "C" fn x10_receiver_fresh(state: &mut [u8]) -> u64
     ensures answer { λ r. ⌜ r ≡ packed (freshAnswer (now (state .entry))) ⌝ }
@@ -85,7 +85,7 @@ pub extern "C" fn x10_receiver_fresh(state: &mut [u8]) -> u64
     pack(fresh(state))
 }
 
-// Hands half-cycles to the receiver in eleven lent bytes, and puts six bytes for each event to the front of a lent buffer; the count is
+// Hands half-cycles to the receiver in thirteen lent bytes, and puts six bytes for each event to the front of a lent buffer; the count is
 // that of the half-cycles. Refused 6, 9.
 #[no_mangle]
 pub extern "C" fn x10_receive(state: &mut [u8], halves: &[u8], events: &mut [u8]) -> u64
@@ -189,7 +189,7 @@ pub extern "C" fn x10_radio_route(table: &mut [u8], shutters: &mut [u8], code: &
     pack(tally(radio_route(table, shutters, code)))
 }
 
-// Hands half-cycles to the receiver in eleven lent bytes and applies each message that it gives to both lent tables; each half-cycle leaves the six bytes of
+// Hands half-cycles to the receiver in thirteen lent bytes and applies each message that it gives to both lent tables; each half-cycle leaves the six bytes of
 // its event and the eight of the tables' answer. The counts are those of `x10_apply`, over the whole call. Refused 1, 16, 3, 17, 6, 9, in this order.
 #[no_mangle]
 pub extern "C" fn x10_mains_route(

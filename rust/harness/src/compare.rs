@@ -110,7 +110,7 @@ fn changed(table: [&[u8]; 2], shutters: [&[u8]; 2]) -> Counts {
 /// A fresh receiver, by the model.
 fn fresh() -> [u8; RECEIVER] {
     let mut state = [0; RECEIVER];
-    bytes::receiver_fresh(&mut state).expect("eleven bytes");
+    bytes::receiver_fresh(&mut state).expect("thirteen bytes");
     state
 }
 

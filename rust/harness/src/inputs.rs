@@ -136,9 +136,46 @@ pub fn line(rng: &mut Rng, len: usize, bad: bool, line: &mut Vec<u8>) {
     line.truncate(len);
 }
 
+/// A line of about `len` half-cycles: bursts with one half-cycle of each inverted, one after the
+/// other with no gap or with clear half-cycles between them, some cut off before their end. Where
+/// `bad`, some half-cycles are neither 0 nor 1.
+pub fn damaged(rng: &mut Rng, len: usize, bad: bool, line: &mut Vec<u8>) {
+    line.clear();
+    line.extend([0; 3]);
+    while line.len() < len {
+        let start = line.len();
+        let word = word(rng);
+        burst(word, line);
+        invert_one(rng, &mut line[start..]);
+        if bad && rng.one_in(6) {
+            line.insert(start + rng.below(line.len() - start), 2 + edge(rng) % 254);
+        }
+        if rng.one_in(6) {
+            line.truncate(start + rng.below(line.len() - start));
+        }
+        if rng.one_in(2) {
+            line.extend(std::iter::repeat_n(0, 1 + rng.below(6)));
+        }
+    }
+    line.truncate(len);
+}
+
+/// Inverts one half-cycle of a burst: in a pair of its first copy, in one of its second, or in a
+/// start.
+fn invert_one(rng: &mut Rng, burst: &mut [u8]) {
+    let copy = burst.len() / 2;
+    let place = match rng.below(6) {
+        0..=2 => 4 + rng.below(copy - 4),
+        3 => copy + 4 + rng.below(copy - 4),
+        4 => rng.below(4),
+        _ => copy + rng.below(4),
+    };
+    burst[place] ^= 1;
+}
+
 /// Bursts of a few messages for one house, each after clear half-cycles: most move levels of many
-/// modules, or many shutters, up or down, some are not carried. Where `bad`, half-cycles that are neither
-/// 0 nor 1 stand between the others.
+/// modules, or many shutters, up or down, some are not carried; some are damaged. Where `bad`,
+/// half-cycles that are neither 0 nor 1 stand between the others.
 pub fn presses(rng: &mut Rng, bad: bool, line: &mut Vec<u8>) {
     line.clear();
     let house = rng.below(16) as u8;
@@ -152,7 +189,10 @@ pub fn presses(rng: &mut Rng, bad: bool, line: &mut Vec<u8>) {
             4 => type_0(rng, house),
             _ => extended(rng, house),
         };
-        send(rng, numbers, line);
+        let start = send(rng, numbers, line);
+        if rng.one_in(4) {
+            invert_one(rng, &mut line[start..]);
+        }
     }
     for _ in 0..if bad { rng.below(4) } else { 0 } {
         line.insert(rng.below(line.len()), 2 + edge(rng) % 254);
@@ -179,10 +219,17 @@ pub fn there_and_back(rng: &mut Rng, line: &mut Vec<u8>) {
     }
 }
 
-/// The burst of a message at the line's end, after three clear half-cycles or a few more.
-fn send(rng: &mut Rng, numbers: [u8; MESSAGE], line: &mut Vec<u8>) {
-    let word = word_of(numbers);
+/// The burst of a message at the line's end, after three clear half-cycles or a few more: where it
+/// begins.
+fn send(rng: &mut Rng, numbers: [u8; MESSAGE], line: &mut Vec<u8>) -> usize {
     line.extend(std::iter::repeat_n(0, 3 + rng.below(4)));
+    let start = line.len();
+    burst(word_of(numbers), line);
+    start
+}
+
+/// The frame of these bits twice, at the line's end.
+fn burst(word: Word, line: &mut Vec<u8>) {
     for _ in 0..2 {
         let frame = line.len();
         line.resize(frame + frame_len(word), 0);
@@ -255,8 +302,32 @@ fn given(rng: &mut Rng) -> [u8; MESSAGE] {
     given
 }
 
-/// Eleven bytes with the fields of a receiver as given and the rest of any values, most of them such
-/// that the receiver is not refused.
+/// The last two bytes of each receiver that waits: where the next half-cycle stands, counted from
+/// the start of the frame that broke, and the place waited for.
+pub fn waitings() -> impl Iterator<Item = [u8; 2]> {
+    let at_22 = (6..=25).map(|since| [since, 22]);
+    at_22.chain((24..=65).map(|since| [since, 62]))
+}
+
+/// Those two bytes for a receiver at this place: none, of a receiver that waits, next to one, or
+/// any.
+fn waiting(rng: &mut Rng, at: u8) -> [u8; 2] {
+    // Only a hunting receiver waits.
+    if rng.one_in(3) || at > 0 && !rng.one_in(6) {
+        return [0, 0];
+    }
+    match rng.below(6) {
+        0 => [rng.pick(&[0, 5, 6, 23, 24, 25, 26, 65, 66]), rng.pick(&[0, 21, 22, 23, 61, 62, 63])],
+        1 => [edge(rng), edge(rng)],
+        2 => [22 + rng.below(4) as u8, 22],
+        3 => [62 + rng.below(4) as u8, 62],
+        _ if rng.one_in(2) => [6 + rng.below(20) as u8, 22],
+        _ => [24 + rng.below(42) as u8, 62],
+    }
+}
+
+/// Thirteen bytes with the fields of a receiver as given and the rest of any values, most of them
+/// such that the receiver is not refused.
 pub fn receiver_at(rng: &mut Rng, past: u8, at: u8) -> [u8; RECEIVER] {
     let mut bits = rng.next() as u32;
     if rng.one_in(2) {
@@ -273,18 +344,27 @@ pub fn receiver_at(rng: &mut Rng, past: u8, at: u8) -> [u8; RECEIVER] {
     state[0] = past;
     state[1] = at;
     state[2..6].copy_from_slice(&bits.to_be_bytes());
-    state[6..].copy_from_slice(&given(rng));
+    state[6..11].copy_from_slice(&given(rng));
+    state[11..].copy_from_slice(&waiting(rng, at));
     state
 }
 
-/// Eleven bytes: often near a frame's end, where a message is given by the next half-cycle.
+/// The same with these as the last two bytes, and a message before them that is none or one.
+pub fn receiver_waiting(rng: &mut Rng, past: u8, at: u8, waiting: [u8; 2]) -> [u8; RECEIVER] {
+    let mut state = receiver_at(rng, past, at);
+    state[6..11].copy_from_slice(&if rng.one_in(2) { [0; MESSAGE] } else { written(rng) });
+    state[11..].copy_from_slice(&waiting);
+    state
+}
+
+/// Thirteen bytes: often near a frame's end, where a message is given by the next half-cycle.
 pub fn receiver(rng: &mut Rng) -> [u8; RECEIVER] {
     let past = if rng.one_in(10) { edge(rng) } else { rng.below(64) as u8 };
     let at = match rng.below(10) {
         0 => edge(rng),
-        1 => 0,
-        2 => 1 + rng.below(4) as u8,
-        3..=5 => rng.pick(&[20, 21, 22, 23, 24]),
+        1 | 2 => 0,
+        3 => 1 + rng.below(4) as u8,
+        4 | 5 => rng.pick(&[20, 21, 22, 23, 24]),
         6 | 7 => rng.pick(&[60, 61, 62, 62, 63]),
         _ => rng.below(63) as u8,
     };
@@ -296,11 +376,12 @@ pub fn receiver(rng: &mut Rng) -> [u8; RECEIVER] {
         state[0] = state[0] & 62 | (word.bits & 1) as u8;
         state[1] = frame_len(word) as u8;
         state[2..6].copy_from_slice(&(word.bits >> 1).to_be_bytes());
-        state[6..].copy_from_slice(&match rng.below(3) {
+        state[6..11].copy_from_slice(&match rng.below(3) {
             0 => numbers,
             1 => written(rng),
             _ => [0; MESSAGE],
         });
+        state[11..].copy_from_slice(&waiting(rng, frame_len(word) as u8));
     }
     state
 }

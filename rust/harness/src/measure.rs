@@ -152,13 +152,13 @@ pub fn all(seed: u64, rounds: usize, only: Option<usize>) -> Vec<Row> {
     let rng = &mut Rng::new(seed);
     let mut rows = Rows { rounds, only, come: 0, rows: Vec::new() };
     bursts(rng, &mut rows);
-    let line = receivers(rng, &mut rows);
+    let line = receivers(rng, seed, &mut rows);
     radio(rng, &mut rows);
     tables(rng, seed, &mut rows);
     benches(rng, &mut rows);
     let start = Start { table: full_table(rng), shutters: full_shutters(seed) };
     radio_route(rng, &start, &mut rows);
-    mains_route(&start, &sent_line(rng, 250), 1, "256 modules, one half-cycle a call", &mut rows);
+    mains_route(&start, &sent_line(rng, 250, false), 1, "256 modules, one half-cycle a call", &mut rows);
     mains_route(&start, &line, line.len(), "256 modules, slice of bursts, a half-cycle", &mut rows);
     stations(rng, &mut rows);
     type_0(seed, &start, &mut rows);
@@ -186,31 +186,41 @@ fn bursts(rng: &mut Rng, rows: &mut Rows) {
 
 fn fresh() -> [u8; RECEIVER] {
     let mut state = [0; RECEIVER];
-    bytes::receiver_fresh(&mut state).expect("eleven bytes");
+    bytes::receiver_fresh(&mut state).expect("thirteen bytes");
     state
 }
 
-/// So many half-cycles: undamaged bursts, each after 8 to 10 clear half-cycles.
-fn sent_line(rng: &mut Rng, len: usize) -> Vec<u8> {
+/// So many half-cycles: bursts, each after 8 to 10 clear half-cycles. Where `damaged`, one
+/// half-cycle of a pair of each first copy is inverted.
+fn sent_line(rng: &mut Rng, len: usize, damaged: bool) -> Vec<u8> {
     let mut line = Vec::new();
     while line.len() < len {
         line.extend(std::iter::repeat_n(0, 8 + rng.below(3)));
         let mut burst = [0; 124];
         let sent = bytes::burst(inputs::message(rng), &mut burst).expect("a message");
+        if damaged {
+            burst[4 + rng.below(sent / 2 - 4)] ^= 1;
+        }
         line.extend(&burst[..sent]);
     }
     line.truncate(len);
     line
 }
 
-/// The slice of bursts that was timed.
-fn receivers(rng: &mut Rng, rows: &mut Rows) -> Vec<u8> {
+/// The slice of undamaged bursts that was timed. The damaged ones are drawn apart, so that the
+/// other inputs are those of before there was this row.
+fn receivers(rng: &mut Rng, seed: u64, rows: &mut Rows) -> Vec<u8> {
     row!(rows, "receiver_fresh", "a call", 1, fresh(), |_| {}, |state, lib| {
         _ = black_box(&lib::receiver_fresh(black_box(state)));
     });
-    let sent = sent_line(rng, 10_000);
+    let sent = sent_line(rng, 10_000, false);
     let clear = vec![0; 10_000];
-    let lines = [(&sent, "slice of bursts, a half-cycle"), (&clear, "slice of clear line, a half-cycle")];
+    let damaged = sent_line(&mut Rng::new(seed ^ 0xDA), 10_000, true);
+    let lines = [
+        (&sent, "slice of bursts, a half-cycle"),
+        (&clear, "slice of clear line, a half-cycle"),
+        (&damaged, "slice of damaged bursts, a half-cycle"),
+    ];
     for (line, timed) in lines {
         let events = vec![0; EVENT * line.len()];
         row!(

@@ -6,7 +6,7 @@ mod shutters;
 pub use shutters::{beside, broken, shutter_count, type_0};
 pub use shutters::{BESIDE, BROKEN, SHUTTER_COUNTS, SHUTTER_LENGTHS, TYPE_0};
 
-use x10_model::bytes::{MESSAGE, RECEIVER, STATION};
+use x10_model::bytes::{MESSAGE, STATION};
 use x10_model::message::Refusal;
 use x10_model::tables::Counts;
 
@@ -61,20 +61,39 @@ pub fn slice(n: usize) -> &'static str {
 }
 
 /// Lines by where the receiver stood before them.
-pub const LINES: [&str; 3] = ["line from the hunt", "line after a message", "line from mid-frame"];
+pub const LINES: [&str; 4] =
+    ["line from the hunt", "line amid a waiting", "line after a message", "line from mid-frame"];
 
-pub fn line(at: u8) -> &'static str {
-    match at {
+pub fn line(before: &[u8]) -> &'static str {
+    match before[1] {
+        0 if waits(before) => "line amid a waiting",
         0 => "line from the hunt",
         1..=4 => "line after a message",
         _ => "line from mid-frame",
     }
 }
 
+/// Whether a receiver waits for a start after a break.
+fn waits(state: &[u8]) -> bool {
+    state[12] != 0
+}
+
+/// Whether the next half-cycle is the fourth from the place waited for on.
+fn at_place(state: &[u8]) -> bool {
+    waits(state) && state[11] == state[12] + 3
+}
+
 /// What a receiver made of one half-cycle of 0 or 1.
-pub const TURNS: [&str; 18] = [
+pub const TURNS: [&str; 25] = [
     "hunting",
     "start found",
+    "waiting",
+    "22 holds no start",
+    "62 holds no start",
+    "start at 22",
+    "start at 62",
+    "start at the place after 0 0 0",
+    "start found before the place",
     "awaited comes",
     "awaited differs",
     "awaited differs and start found",
@@ -95,8 +114,9 @@ pub const TURNS: [&str; 18] = [
 
 pub fn turn(before: &[u8], code: u8, after: &[u8]) -> &'static str {
     let (at, next) = (before[1], after[1]);
-    let given = before[6..RECEIVER] != [0; MESSAGE];
+    let given = before[6..11] != [0; MESSAGE];
     match (code, at) {
+        (0, 0) if waits(before) => waiting_turn(before, after),
         (0, 0) if next == 0 => "hunting",
         (0, 0) => "start found",
         (0, 1..=4) if next == at + 1 => "awaited comes",
@@ -118,9 +138,75 @@ pub fn turn(before: &[u8], code: u8, after: &[u8]) -> &'static str {
     }
 }
 
+/// The same of a receiver that waits.
+fn waiting_turn(before: &[u8], after: &[u8]) -> &'static str {
+    let place = before[12];
+    match (after[1], after[12]) {
+        (0, 0) => "62 holds no start",
+        (0, next) if next != place => "22 holds no start",
+        (0, _) => "waiting",
+        _ if !at_place(before) => "start found before the place",
+        _ if before[0] == 0b000111 => "start at the place after 0 0 0",
+        _ if place == 22 => "start at 22",
+        _ => "start at 62",
+    }
+}
+
+/// What waitings came to over a line. The s is where the start of the frame that broke began.
+pub const WAITS: [&str; 6] = [
+    "frame begun at s+22",
+    "frame begun at s+62",
+    "frame begun at s+62, s+22 held no start",
+    "frame begun by the hunt amid a waiting",
+    "no start at s+62",
+    "MESSAGE of a frame waited for",
+];
+
+/// The waitings of a line so far.
+#[derive(Default)]
+pub struct Waits {
+    /// The place that was waited for first, where the break was on this line.
+    first: Option<u8>,
+    /// The frame that is read was begun at a place waited for.
+    waited_for: bool,
+}
+
+impl Waits {
+    /// What comes with a half-cycle: the receiver before it, its event's code and the receiver
+    /// after.
+    pub fn next(&mut self, before: &[u8], code: u8, after: &[u8]) -> Option<&'static str> {
+        match code {
+            0 if waits(before) && !waits(after) => self.over(before, after),
+            1 if self.waited_for => {
+                self.waited_for = false;
+                Some("MESSAGE of a frame waited for")
+            }
+            10 => {
+                *self = Waits { first: Some(after[12]), waited_for: false };
+                None
+            }
+            _ => None,
+        }
+    }
+
+    /// A waiting is over.
+    fn over(&mut self, before: &[u8], after: &[u8]) -> Option<&'static str> {
+        let first = self.first.take();
+        let begun = after[1] != 0;
+        self.waited_for = begun && at_place(before);
+        match (first?, before[12]) {
+            _ if !begun => Some("no start at s+62"),
+            _ if !self.waited_for => Some("frame begun by the hunt amid a waiting"),
+            (22, 22) => Some("frame begun at s+22"),
+            (22, _) => Some("frame begun at s+62, s+22 held no start"),
+            _ => Some("frame begun at s+62"),
+        }
+    }
+}
+
 /// Why bytes are no receiver, or one in no state that there is.
-pub const IMPOSSIBLE: [&str; 8] = [
-    "not eleven bytes",
+pub const IMPOSSIBLE: [&str; 13] = [
+    "not thirteen bytes",
     "kind of no message alone",
     "code of no function alone",
     "data beside a short message alone",
@@ -128,16 +214,26 @@ pub const IMPOSSIBLE: [&str; 8] = [
     "place alone",
     "pairs alone",
     "house or unit alone",
+    "count of no waiting alone",
+    "place waited for alone",
+    "waiting before its break alone",
+    "waiting beyond its place alone",
+    "waiting amid a frame alone",
 ];
 
 /// None where there is more than one cause.
 pub fn impossible(state: &[u8]) -> Option<&'static str> {
-    let &[past, at, b3, b2, b1, b0, kind, house, third, data, command] = state else {
-        return Some("not eleven bytes");
+    let &[past, at, b3, b2, b1, b0, kind, house, third, data, command, since, place] = state else {
+        return Some("not thirteen bytes");
     };
     let bits = u32::from_be_bytes([b3, b2, b1, b0]);
     let none = kind == 0 && [house, third, data, command] != [0; 4];
     let short = kind == 1 || kind == 2;
+    let (earliest, latest) = match place {
+        22 => (6, 25),
+        62 => (24, 65),
+        _ => (0, 255),
+    };
     let causes = [
         (none || kind > 3, "kind of no message alone"),
         (kind == 2 && matches!(third, 7 | 10..=12 | 16..), "code of no function alone"),
@@ -146,6 +242,11 @@ pub fn impossible(state: &[u8]) -> Option<&'static str> {
         (at > 62, "place alone"),
         ((23..=62).contains(&at) && bits >> ((at - 23) / 2) & 31 != 15, "pairs alone"),
         (house > 15 || kind != 2 && third > 15, "house or unit alone"),
+        (place == 0 && since > 0, "count of no waiting alone"),
+        (!matches!(place, 0 | 22 | 62), "place waited for alone"),
+        (since < earliest, "waiting before its break alone"),
+        (since > latest, "waiting beyond its place alone"),
+        (at > 0 && matches!(place, 22 | 62), "waiting amid a frame alone"),
     ];
     only(&causes)
 }

@@ -1,10 +1,11 @@
 //! The routines over numbers and byte slices, in the form that the static library exports.
 //!
 //! A message is five numbers: kind (1 address, 2 function, 3 extended), house, unit or function
-//! code, data, command. A receiver is 11 bytes: past, at, bits in four bytes, highest first, and
-//! the message given before, five zeros where there is none. A station is 8 bytes: the message that
-//! it holds, five zeros where it is empty, wait, count and place. An event is six bytes: its code and
-//! the message of a MESSAGE, else five zeros. An answer in lent memory is eight bytes, lowest first.
+//! code, data, command. A receiver is 13 bytes: past, at, bits in four bytes, highest first, the
+//! message given before, five zeros where there is none, since and target. A station is 8 bytes:
+//! the message that it holds, five zeros where it is empty, wait, count and place. An event is six
+//! bytes: its code and the message of a MESSAGE, else five zeros. An answer in lent memory is eight
+//! bytes, lowest first.
 //!
 //! Each gives the count, or the number by which it refuses; a refusal changes nothing that was
 //! lent. They are not inlined, so that a caller pays for a call as it does with the library.
@@ -20,7 +21,7 @@ use crate::tables::{Counts, Tables};
 
 /// Bytes of a message, a receiver, a station, an event and an answer.
 pub const MESSAGE: usize = 5;
-pub const RECEIVER: usize = 11;
+pub const RECEIVER: usize = 13;
 pub const STATION: usize = 8;
 pub const EVENT: usize = 6;
 pub const ANSWER: usize = 8;
@@ -100,14 +101,14 @@ fn kept_bytes(message: Option<Message>) -> [u8; MESSAGE] {
     message.map_or(NO_MESSAGE, message_bytes)
 }
 
-/// The receiver of 11 bytes. 6 for another length, and for a message or a receiver that is none.
+/// The receiver of 13 bytes. 6 for another length, and for a message or a receiver that is none.
 fn receiver(state: &[u8]) -> Result<Receiver, Refusal> {
-    let &[past, at, b3, b2, b1, b0, kind, house, third, data, command] = state else {
+    let &[past, at, b3, b2, b1, b0, kind, house, third, data, command, since, target] = state else {
         return Err(Refusal::State);
     };
     let bits = u32::from_be_bytes([b3, b2, b1, b0]);
     let given = kept([kind, house, third, data, command])?;
-    let receiver = Receiver { past, at, bits, given };
+    let receiver = Receiver { past, at, bits, given, since, target };
     receiver.judge()?;
     Ok(receiver)
 }
@@ -117,7 +118,9 @@ fn receiver_bytes(receiver: &Receiver) -> [u8; RECEIVER] {
     state[0] = receiver.past;
     state[1] = receiver.at;
     state[2..6].copy_from_slice(&receiver.bits.to_be_bytes());
-    state[6..].copy_from_slice(&kept_bytes(receiver.given));
+    state[6..11].copy_from_slice(&kept_bytes(receiver.given));
+    state[11] = receiver.since;
+    state[12] = receiver.target;
     state
 }
 

@@ -1,10 +1,10 @@
 //! X-10 messages, frames, the receiver, stations, radio bytes and the tables of modules and shutters in
 //! plain Rust.
 //!
-//! Written from the scope paper, request A1, docs/receiver.md and include/x10.h without the Rattle code,
-//! so that it can be held against the proved library: where the two differ, one of them misreads the paper. Two
-//! changes were made with the Rattle code known: the array of 124 for a burst, and the awaited
-//! half-cycle that goes to the hunt.
+//! Written from the scope paper, requests A1 and A2, docs/receiver.md and include/x10.h without the
+//! Rattle code, so that it can be held against the proved library: where the two differ, one of
+//! them misreads the paper. Two changes were made with the Rattle code known: the array of 124 for
+//! a burst, and the awaited half-cycle that goes to the hunt.
 //!
 //! For a reader of the times: both tables, a receiver and a single station are judged once in a call, every
 //! station and draw at each call of a bench. Receivers, stations and tables are changed in place.

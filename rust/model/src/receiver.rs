@@ -27,6 +27,12 @@ pub struct Receiver {
     pub bits: u32,
     /// The message just given, whose repeat may follow.
     pub given: Option<Message>,
+    /// While the start of a second copy is waited for, where the half-cycle to come stands, counted
+    /// from the start of the frame that broke; else 0.
+    pub since: u8,
+    /// The place, counted in the same way, at which that start is waited for: 22 or 62; 0 where
+    /// none is.
+    pub target: u8,
 }
 
 /// `past` and the half-cycle that completes 0 0 0 1 1 1 0.
@@ -38,6 +44,15 @@ const AWAITED: std::ops::RangeInclusive<u8> = 1..=4;
 const FIRST_PAIR: u8 = 5;
 const STANDARD_END: u8 = 22;
 const EXTENDED_END: u8 = 62;
+
+/// Where a second copy begins, counted from the start of the first.
+const AFTER_STANDARD: u8 = STANDARD_END;
+const AFTER_EXTENDED: u8 = EXTENDED_END;
+
+/// A start, and the last four of `past`.
+const START_BITS: u8 = 0b1110;
+const START_MASK: u8 = 0b1111;
+const START_LEN: u8 = 4;
 
 /// Bits of the longest frame.
 const WORD_MASK: u32 = (1 << 29) - 1;
@@ -53,13 +68,16 @@ impl Default for Receiver {
 
 impl Receiver {
     /// Hunting, no half-cycle received.
-    pub const FRESH: Receiver = Receiver { past: PAST_MASK, at: 0, bits: 0, given: None };
+    pub const FRESH: Receiver =
+        Receiver { past: PAST_MASK, at: 0, bits: 0, given: None, since: 0, target: 0 };
 
-    /// 6 where a kept half-cycle is not 0 or 1, there are more pairs than the frame has, or the
-    /// message given has a house or unit above 15.
+    /// 6 where a kept half-cycle is not 0 or 1, there are more pairs than the frame has, the
+    /// message given has a house or unit above 15, or no break, with calls after it, leads to the
+    /// waiting.
     pub fn judge(&self) -> Result<(), Refusal> {
         let given_ok = self.given.is_none_or(|message| message.judge().is_ok());
-        if self.past > PAST_MASK || self.at > EXTENDED_END || !self.may_be_long() || !given_ok {
+        let pairs_ok = self.at <= EXTENDED_END && self.may_be_long();
+        if self.past > PAST_MASK || !pairs_ok || !given_ok || !self.may_wait() {
             return Err(Refusal::State);
         }
         Ok(())
@@ -72,6 +90,18 @@ impl Receiver {
         }
         let pairs_after_ninth = (self.at - STANDARD_END - 1) / 2;
         self.bits >> pairs_after_ninth & 0b11111 == EXTENDED_MARK
+    }
+
+    /// The earliest break of the first nine pairs is that of the first, and that of the later ones
+    /// that of the tenth. The waiting lasts until the four half-cycles from its place on have come.
+    fn may_wait(&self) -> bool {
+        let earliest = match self.target {
+            0 => return self.since == 0,
+            AFTER_STANDARD => FIRST_PAIR + 1,
+            AFTER_EXTENDED => STANDARD_END + 2,
+            _ => return false,
+        };
+        self.at == 0 && (earliest..self.target + START_LEN).contains(&self.since)
     }
 
     /// One half-cycle. A refusal (5, 6) leaves the receiver as it was.
@@ -93,12 +123,17 @@ impl Receiver {
         Ok(self.advance(half))
     }
 
-    #[inline]
+    /// Inlined, as the steps of a frame are, so that a slice keeps the fields in registers.
+    #[inline(always)]
     fn advance(&mut self, half: u8) -> Event {
         let before = self.past;
         self.past = (before << 1 | half) & PAST_MASK;
         if self.at == 0 {
-            self.hunts(before, half);
+            if self.target == 0 {
+                self.hunts(before, half);
+            } else {
+                self.waits(before, half);
+            }
             Event::Nothing
         } else if AWAITED.contains(&self.at) {
             let wanted = u8::from(self.at < 4);
@@ -127,6 +162,24 @@ impl Receiver {
         }
     }
 
+    /// The same while a start is waited for: a frame begins also where the half-cycle, which `past`
+    /// has already, completes 1 1 1 0 at the place waited for. Where 22 held none, 62 is the place.
+    /// A frame begun either way ends the waiting.
+    fn waits(&mut self, before: u8, half: u8) {
+        self.hunts(before, half);
+        self.since += 1;
+        let come = self.since == self.target + START_LEN;
+        if come && self.past & START_MASK == START_BITS {
+            self.at = FIRST_PAIR;
+        }
+        if self.at != 0 || come && self.target == AFTER_EXTENDED {
+            self.since = 0;
+            self.target = 0;
+        } else if come {
+            self.target = AFTER_EXTENDED;
+        }
+    }
+
     /// Hunting from the next half-cycle on.
     fn hunt(&mut self) {
         self.at = 0;
@@ -135,8 +188,12 @@ impl Receiver {
     }
 
     /// A pair is complete.
+    #[inline(always)]
     fn pair(&mut self, first: u8, second: u8) -> Event {
         if first == second {
+            // The frame has had `at` half-cycles, this one among them.
+            self.since = self.at;
+            self.target = if self.at <= STANDARD_END { AFTER_STANDARD } else { AFTER_EXTENDED };
             self.hunt();
             return Event::BrokenPair;
         }
@@ -162,6 +219,7 @@ impl Receiver {
     }
 
     /// A frame is complete.
+    #[inline(always)]
     fn frame(&mut self, message: Message) -> Event {
         if self.given == Some(message) {
             self.hunt();
@@ -175,254 +233,4 @@ impl Receiver {
 }
 
 #[cfg(test)]
-mod tests {
-    use super::*;
-    use crate::burst::{frame_len, write_burst, write_frame, LONGEST, START};
-    use crate::drawn::Drawn;
-    use crate::message::{Function, Word};
-
-    const A1: Message = Message::Address { house: 0, unit: 0 };
-    const M13: Message = Message::Address { house: 12, unit: 12 };
-
-    fn burst(message: Message) -> Vec<u8> {
-        let mut buf = [0; LONGEST];
-        let len = write_burst(message, &mut buf).unwrap();
-        buf[..len].to_vec()
-    }
-
-    fn frame(word: Word) -> Vec<u8> {
-        let mut frame = vec![0; frame_len(word)];
-        write_frame(word, &mut frame);
-        frame
-    }
-
-    /// What a fresh receiver says, with the half-cycle's number counted from 1.
-    fn heard(line: &[u8]) -> Vec<(usize, Event)> {
-        let mut receiver = Receiver::FRESH;
-        let mut heard = Vec::new();
-        for (i, &half) in line.iter().enumerate() {
-            match receiver.step(half).unwrap() {
-                Event::Nothing => {}
-                event => heard.push((i + 1, event)),
-            }
-        }
-        heard
-    }
-
-    /// The event of the pairs of a frame at the front of a line, and how many half-cycles they are.
-    /// None where the line ends before it.
-    fn frame_in_list(line: &[u8]) -> Option<(usize, Event)> {
-        let mut bits: Vec<u8> = Vec::new();
-        let mut pairs = 9;
-        while bits.len() < pairs {
-            let place = 2 * bits.len();
-            let pair = line.get(place..place + 2)?;
-            if pair[0] == pair[1] {
-                return Some((place + 2, Event::BrokenPair));
-            }
-            bits.push(pair[0]);
-            if bits.len() == 9 && bits[4..] == [0, 1, 1, 1, 1] {
-                pairs = 29;
-            }
-        }
-        let number = bits.iter().fold(0, |n, &bit| n * 2 + u32::from(bit));
-        let event = match (pairs, Message::of_nine(number)) {
-            (29, _) => Event::Message(Message::of_twenty_nine(number)),
-            (_, Nine::Whole(message)) => Event::Message(message),
-            _ => Event::BrokenUnsupported,
-        };
-        Some((2 * pairs, event))
-    }
-
-    /// The receiver once more, over the whole list of half-cycles, by looking back and ahead in
-    /// it: no state is kept between half-cycles but the place.
-    fn heard_in_list(line: &[u8]) -> Vec<(usize, Event)> {
-        let mut heard = Vec::new();
-        let mut i = 0;
-        while i < line.len() {
-            i += 1;
-            if !line[..i].ends_with(&[0, 0, 0, 1, 1, 1, 0]) {
-                continue;
-            }
-            let mut last = None;
-            // i half-cycles have come, and the pairs of a frame are next.
-            while let Some((taken, event)) = frame_in_list(&line[i..]) {
-                i += taken;
-                if last == Some(event) {
-                    heard.push((i, Event::Repeat));
-                    break;
-                }
-                heard.push((i, event));
-                if !matches!(event, Event::Message(_)) {
-                    break;
-                }
-                last = Some(event);
-                let Some(differs) = (0..4).find(|&k| line.get(i + k).is_none_or(|half| *half != START[k]))
-                else {
-                    i += 4;
-                    continue;
-                };
-                i = line.len().min(i + differs + 1);
-                break;
-            }
-        }
-        heard
-    }
-
-    #[test]
-    fn two_clear_half_cycles_nothing_three_heard() {
-        for message in [A1, M13, Message::Extended { house: 1, unit: 2, data: 3, command: 0x31 }] {
-            let burst = burst(message);
-            assert_eq!(heard(&[&[0, 0], &burst[..]].concat()), []);
-            let frame = burst.len() / 2;
-            assert_eq!(
-                heard(&[&[0, 0, 0], &burst[..]].concat()),
-                [(3 + frame, Event::Message(message)), (3 + 2 * frame, Event::Repeat)]
-            );
-        }
-    }
-
-    #[test]
-    fn the_trace_example() {
-        let line = [&[0, 0, 0], &burst(A1)[..]].concat();
-        assert_eq!(heard(&line), [(25, Event::Message(A1)), (47, Event::Repeat)]);
-    }
-
-    #[test]
-    fn m13_with_its_start_damaged_is_not_j_status_request() {
-        let mut line = [&[0, 0, 0], &burst(M13)[..22], &[0; 60]].concat();
-        line[6] = 1;
-        assert_eq!(heard(&line), []);
-    }
-
-    #[test]
-    fn an_unsupported_code_is_broken_11() {
-        for code in [10, 11, 12] {
-            let word = Word { bits: 6 << 5 | code << 1 | 1, len: 9 };
-            let line = [&[0, 0, 0], &frame(word)[..], &[0; 10]].concat();
-            assert_eq!(heard(&line), [(25, Event::BrokenUnsupported)]);
-        }
-    }
-
-    #[test]
-    fn a_different_second_frame_is_a_message() {
-        let a = frame(A1.word());
-        let b = frame(M13.word());
-        let line = [&[0, 0, 0], &a[..], &b, &b, &b].concat();
-        let told = [(25, Event::Message(A1)), (47, Event::Message(M13)), (69, Event::Repeat)];
-        assert_eq!(heard(&line), told);
-    }
-
-    #[test]
-    fn the_history_includes_a_frame_that_was_read() {
-        // A on ends in 1 0, and two clear half-cycles follow: with the frame's own 0 they are the
-        // three that the next start needs. The first of them ends the awaiting.
-        let mut line =
-            [&[0, 0, 0], &burst(Message::Function { house: 0, function: Function::On })[..22]].concat();
-        assert_eq!(line[24], 0);
-        line.extend([0, 0]);
-        line.extend(burst(A1));
-        assert_eq!(heard(&line).len(), 3);
-        assert_eq!(heard(&line)[1], (49, Event::Message(A1)));
-    }
-
-    #[test]
-    fn one_inverted_half_cycle_gives_at_most_that_message() {
-        let mut messages: Vec<Message> = Vec::new();
-        for house in 0..16 {
-            messages.extend((0..16).map(|unit| Message::Address { house, unit }));
-            messages.extend(Function::ALL.map(|function| Message::Function { house, function }));
-        }
-        for n in 0..256u32 {
-            let number = n.wrapping_mul(0x9E37_79B9);
-            messages.push(Message::Extended {
-                house: (number >> 28) as u8,
-                unit: (number >> 24 & 15) as u8,
-                data: (number >> 16) as u8,
-                command: (number >> 8) as u8,
-            });
-        }
-        for message in messages {
-            let burst = burst(message);
-            for clear in 3..6 {
-                for inverted in 0..burst.len() {
-                    let mut line = [&vec![0; clear][..], &burst, &[0; 70]].concat();
-                    line[clear + inverted] ^= 1;
-                    let given: Vec<_> = heard(&line)
-                        .into_iter()
-                        .filter_map(|(_, event)| match event {
-                            Event::Message(message) => Some(message),
-                            _ => None,
-                        })
-                        .collect();
-                    assert!(given.is_empty() || given == [message], "{message:?} {inverted}");
-                }
-            }
-        }
-    }
-
-    #[test]
-    fn agrees_with_the_receiver_over_the_list() {
-        let mut drawn = Drawn(1);
-        for _ in 0..20_000 {
-            let mut line = Vec::new();
-            for _ in 0..drawn.below(6) {
-                line.extend(vec![0; drawn.below(6) as usize]);
-                let len = if drawn.below(2) == 0 { 9 } else { 29 };
-                let mut bits = drawn.below(1 << len) as u32;
-                if len == 29 {
-                    bits = bits & !(31 << 20) | EXTENDED_MARK << 20;
-                }
-                let frame = frame(Word { bits, len });
-                for _ in 0..drawn.below(4) {
-                    line.extend(&frame);
-                }
-                for _ in 0..drawn.below(3) {
-                    let place = drawn.below(line.len() as u64 + 1) as usize;
-                    if place < line.len() {
-                        line[place] ^= 1;
-                    }
-                }
-            }
-            assert_eq!(heard(&line), heard_in_list(&line), "{line:?}");
-        }
-    }
-
-    #[test]
-    fn an_awaited_half_cycle_that_differs_goes_to_the_hunt() {
-        for at in 1..=3 {
-            let made_up = Receiver { past: BEFORE_START, at, bits: 5, given: Some(A1) };
-            let mut receiver = made_up;
-            assert_eq!(receiver.step(0), Ok(Event::Nothing));
-            assert_eq!(receiver, Receiver { past: 14, at: FIRST_PAIR, bits: 0, given: None });
-            let mut receiver = Receiver { past: 6, ..made_up };
-            assert_eq!(receiver.step(0), Ok(Event::Nothing));
-            assert_eq!(receiver, Receiver { past: 12, at: 0, bits: 0, given: None });
-        }
-    }
-
-    #[test]
-    fn refusals_leave_the_receiver() {
-        let mut receiver = Receiver::FRESH;
-        assert_eq!(receiver.step(2), Err(Refusal::Half));
-        assert_eq!(receiver, Receiver::FRESH);
-        let far = Message::Address { house: 16, unit: 0 };
-        let states = [
-            Receiver { past: 64, ..Receiver::FRESH },
-            Receiver { at: 63, bits: EXTENDED_MARK << 20, ..Receiver::FRESH },
-            Receiver { at: 23, bits: EXTENDED_MARK - 1, ..Receiver::FRESH },
-            Receiver { at: 26, bits: EXTENDED_MARK, ..Receiver::FRESH },
-            Receiver { given: Some(far), ..Receiver::FRESH },
-        ];
-        for state in states {
-            let mut receiver = state;
-            assert_eq!(receiver.step(1), Err(Refusal::State));
-            assert_eq!(receiver.step(9), Err(Refusal::Half));
-            assert_eq!(receiver, state);
-        }
-        for at in 23..=62 {
-            let bits = EXTENDED_MARK << ((at - 23) / 2);
-            assert_eq!(Receiver { at, bits, ..Receiver::FRESH }.judge(), Ok(()));
-        }
-    }
-}
+mod tests;

@@ -193,7 +193,7 @@ pub const MESSAGE_BYTES: usize = 5;
 /// Half-cycles of the longest burst.
 pub const LONGEST_BURST: usize = 124;
 /// Bytes of a receiver.
-pub const RECEIVER_BYTES: usize = 11;
+pub const RECEIVER_BYTES: usize = 13;
 /// Bytes of a station.
 pub const STATION_BYTES: usize = 8;
 /// Bytes of an event.

@@ -7,12 +7,15 @@ use Rattle.receiver.proofs.hunt.Tie as tie
 shift-requires : tie.Need-shift-requires
 shift-requires c κs = search needs
 
+starts-requires : tie.Need-starts-requires
+starts-requires c κs = search needs
+
 saying-requires : tie.Need-saying-requires
 saying-requires c κs = search needs
 
 returns : tie.Need-returns
 unfolding huntOf
-returns c = simp (c .saying .ensures, c .before .before .shift .ensures, c .before .if1 .taken)
+returns c = simp (c .saying .ensures, c .before .starts .ensures, c .before .before .before .shift .ensures, c .before .before .if1 .taken)
 
 hunts-requires : tie.Need-hunts-requires
 hunts-requires c κs = search needs
@@ -27,4 +30,11 @@ returns-2 c = simp (c .saying2 .ensures, c .before .hunts .ensures, c .before .b
 pub hunt-spec : {M : Type 1} → statement M
 hunt-spec =
     tie.close
-    (tie.spec shift-requires saying-requires returns hunts-requires saying-requires-2 returns-2)
+    (tie.spec
+    shift-requires
+    starts-requires
+    saying-requires
+    returns
+    hunts-requires
+    saying-requires-2
+    returns-2)

@@ -26,8 +26,8 @@ saying-requires c κs = search needs
 enum-told-2 : tie.Need-enum-told-2
 enum-told-2 c = search needs
 
-hunts-requires : tie.Need-hunts-requires
-hunts-requires c κs = search needs
+waits-requires : tie.Need-waits-requires
+waits-requires c κs = search needs
 
 saying-requires-2 : tie.Need-saying-requires-2
 saying-requires-2 c κs = search needs
@@ -54,7 +54,7 @@ returns-3 : tie.Need-returns-3
 unfolding pairOf
 returns-3 c =
     let arm = c .before .before in
-    simp (c .saying2 .ensures, c .before .hunts .ensures, sym (arm .before .before .reading .ensures) ∙ arm .enum-told2 .given .1)
+    simp (c .saying2 .ensures, c .before .waits .ensures, sym (arm .before .before .reading .ensures) ∙ arm .enum-told2 .given .1)
 
 returns-4 : tie.Need-returns-4
 unfolding pairOf
@@ -73,7 +73,7 @@ pair-spec =
     add-t10
     saying-requires
     enum-told-2
-    hunts-requires
+    waits-requires
     saying-requires-2
     enum-known-why
     saying-requires-3

@@ -23,8 +23,8 @@ returns c =
     let first = c .before .before in
     simp (c .saying .ensures, first .before .before .shift .ensures, eq-eqb _ _ (first .if1 .taken))
 
-hunts-requires : tie.Need-hunts-requires
-hunts-requires c κs = search needs
+breaks-requires : tie.Need-breaks-requires
+breaks-requires c κs = at-most _ _ (c .before .before .before .before .before .pre .1)
 
 saying-requires-2 : tie.Need-saying-requires-2
 saying-requires-2 c κs = search needs
@@ -36,7 +36,7 @@ returns-2 c =
     let second = equal .before .before in
     simp (
       c .saying2 .ensures,
-      c .before .hunts .ensures,
+      c .before .breaks .ensures,
       second .before .before .shift .ensures,
       ne-eqb _ _ (second .if1 .left),
       eq-eqb _ _ (equal .if2 .taken),
@@ -71,7 +71,7 @@ reads-spec =
     add-t9
     saying-requires
     returns
-    hunts-requires
+    breaks-requires
     saying-requires-2
     returns-2
     mul-pair

@@ -44,8 +44,9 @@ impl<'a> Case<'a> {
 }
 
 pub fn mains_route(rng: &mut Rng, size: usize) -> Tally {
-    let situations: [&[&str]; 14] = [
+    let situations: [&[&str]; 15] = [
         &reached::SLICES,
+        &reached::WAITS,
         &reached::WITHIN,
         &reached::WHOLE,
         &reached::SHUTTER_WHOLE,
@@ -87,7 +88,11 @@ impl Mains {
     /// Lines from a fresh receiver, handed over in slices of any length; some of bursts for one house.
     fn lines(&mut self, rng: &mut Rng, valid: Tables, bad: bool) {
         let mut line = Vec::new();
-        inputs::line(rng, 600, bad, &mut line);
+        if rng.one_in(3) {
+            inputs::damaged(rng, 600, bad, &mut line);
+        } else {
+            inputs::line(rng, 600, bad, &mut line);
+        }
         self.slices(rng, valid, &line, &[0, 1, 2, 2, 8, 100, 300]);
         for _ in 0..10 {
             inputs::presses(rng, bad, &mut line);
@@ -196,16 +201,17 @@ impl Mains {
     /// The model's calls for one half-cycle and for one message, one after the other, must say and
     /// leave the same. Counts what is reached on the way.
     fn singly(&mut self, counts: Counts) {
-        let mut state = self.state.before().to_vec();
+        let mut state: [u8; RECEIVER] = self.state.before().try_into().expect("a receiver");
         let mut table = self.both.table.before().to_vec();
         let mut shutters = self.both.shutters.before().to_vec();
         let mut slice = reached::Slice::default();
+        let mut waits = reached::Waits::default();
         let mut same = true;
         let halves = self.halves.before();
         let events = self.events.after().chunks(EVENT);
         let answers = self.answers.after().chunks(ANSWER);
         for ((&half, event), answer) in halves.iter().zip(events).zip(answers) {
-            let at = state[1];
+            let before = state;
             let single = one(&mut state, half);
             let applied = match single {
                 [1, numbers @ ..] => apply_one(&mut self.tally, &mut table, &mut shutters, numbers),
@@ -213,7 +219,9 @@ impl Mains {
             };
             same &= event == single && answer == bytes::packed(applied).to_le_bytes();
             self.tally.wrote(single[0]);
-            slice.next(at, &single, applied).into_iter().for_each(|came| self.tally.reach(came));
+            let came = slice.next(before[1], &single, applied);
+            let waited = waits.next(&before, single[0], &state);
+            came.into_iter().chain(waited).for_each(|came| self.tally.reach(came));
         }
         self.tally.reach(reached::slice(halves.len()));
         slice.whole(counts).for_each(|whole| self.tally.reach(whole));

@@ -34,8 +34,14 @@ struct Receive {
 }
 
 pub fn receive(rng: &mut Rng, size: usize) -> Tally {
-    let situations: [&[&str]; 5] =
-        [&reached::TURNS, &reached::SLICES, &reached::LINES, &reached::IMPOSSIBLE, &reached::LENGTHS];
+    let situations: [&[&str]; 6] = [
+        &reached::TURNS,
+        &reached::WAITS,
+        &reached::SLICES,
+        &reached::LINES,
+        &reached::IMPOSSIBLE,
+        &reached::LENGTHS,
+    ];
     let mut receive = Receive {
         tally: Tally::new("receive", &[0, 6, 9], &[0, 1, 2, 5, 10, 11], &situations),
         state: Lent::new("state", 2 * RECEIVER, rng),
@@ -43,6 +49,8 @@ pub fn receive(rng: &mut Rng, size: usize) -> Tally {
         events: Lent::new("events", EVENT * MOST + 64, rng),
     };
     receive.single_half_cycles(rng, size);
+    receive.waitings(rng, size);
+    receive.waiting_bytes(rng, size);
     receive.lines(rng, size);
     receive.tally
 }
@@ -67,6 +75,31 @@ impl Receive {
         }
     }
 
+    /// One half-cycle from every receiver that waits, with every past.
+    fn waitings(&mut self, rng: &mut Rng, size: usize) {
+        for _ in 0..4 * size {
+            for waiting in inputs::waitings() {
+                for (past, half) in (0..64).flat_map(|past| [(past, 0), (past, 1)]) {
+                    let from = inputs::receiver_waiting(rng, past, 0, waiting);
+                    self.case(Some(&from), &[half], EVENT, rng);
+                }
+            }
+        }
+    }
+
+    /// The same from every two bytes of a waiting, in the hunt and at any place.
+    fn waiting_bytes(&mut self, rng: &mut Rng, size: usize) {
+        for _ in 0..2 * size {
+            for (since, place) in (0..=255).flat_map(|since| (0..=255).map(move |place| (since, place))) {
+                for at in [0, 1 + rng.below(62) as u8] {
+                    let past = rng.below(64) as u8;
+                    let from = inputs::receiver_waiting(rng, past, at, [since, place]);
+                    self.case(Some(&from), &[rng.below(2) as u8], EVENT, rng);
+                }
+            }
+        }
+    }
+
     /// Lines of any length, from fresh receivers, from where the last line ended, from any bytes.
     fn lines(&mut self, rng: &mut Rng, size: usize) {
         let mut line = Vec::new();
@@ -74,7 +107,11 @@ impl Receive {
             let most = if i % 100 == 0 { MOST } else { rng.pick(&[3, 300, 300, 300]) };
             let len = rng.below(most + 1);
             let bad = rng.one_in(4);
-            inputs::line(rng, len, bad, &mut line);
+            if rng.one_in(3) {
+                inputs::damaged(rng, len, bad, &mut line);
+            } else {
+                inputs::line(rng, len, bad, &mut line);
+            }
             let asked = EVENT * len;
             let room = match rng.below(10) {
                 0 => inputs::length(rng, asked, asked + 64),
@@ -134,15 +171,22 @@ impl Receive {
         if let [0 | 1] = line {
             self.tally.reach(reached::turn(before, self.events.after()[0], self.state.after()));
         } else if !line.is_empty() {
-            self.tally.reach(reached::line(before[1]));
+            self.tally.reach(reached::line(before));
         }
     }
 
-    /// The model's calls for one half-cycle each, one after the other, must say the same.
+    /// The model's calls for one half-cycle each, one after the other, must say the same. Counts
+    /// what is reached on the way.
     fn singly(&mut self, line: &[u8]) {
-        let mut state = self.state.before().to_vec();
-        let events = self.events.after().chunks(EVENT);
-        let same = line.iter().zip(events).all(|(&half, event)| one(&mut state, half) == event);
+        let mut state: [u8; RECEIVER] = self.state.before().try_into().expect("a receiver");
+        let mut waits = reached::Waits::default();
+        let mut same = true;
+        for (&half, event) in line.iter().zip(self.events.after().chunks(EVENT)) {
+            let before = state;
+            let single = one(&mut state, half);
+            same &= event == single;
+            waits.next(&before, single[0], &state).into_iter().for_each(|came| self.tally.reach(came));
+        }
         if !same || state != self.state.after() {
             self.tally.differ(&format!("the model by single half-cycles\n    line {line:?}"));
         }

@@ -72,9 +72,18 @@ impl Run {
 }
 
 /// Fields that the receiver refuses, one cause each.
-fn impossible() -> [Receiver; 5] {
+fn impossible() -> [Receiver; 13] {
     let far = Message::Address { house: 16, unit: 0 };
+    let waits = |at, since, target| Receiver { at, since, target, ..Receiver::FRESH };
     [
+        waits(0, 5, 22),
+        waits(0, 26, 22),
+        waits(0, 23, 62),
+        waits(0, 66, 62),
+        waits(0, 6, 0),
+        waits(0, 6, 21),
+        waits(5, 6, 22),
+        waits(22, 24, 62),
         Receiver { past: 64, ..Receiver::FRESH },
         Receiver { at: 63, bits: 0b01111 << 20, ..Receiver::FRESH },
         Receiver { at: 23, ..Receiver::FRESH },
@@ -104,26 +113,39 @@ fn receivers_read_back() {
         Some(Message::Extended { house: 1, unit: 2, data: 3, command: 4 }),
     ];
     for given in given {
-        let value = Receiver { past: 63, at: 22, bits: 0x89AB_CDEF, given };
+        let value = Receiver { past: 63, at: 22, bits: 0x89AB_CDEF, given, since: 0, target: 0 };
         assert_eq!(receiver(&receiver_bytes(&value)), Ok(value));
+        for (since, target) in [(6, 22), (25, 22), (24, 62), (65, 62)] {
+            let waits = Receiver { at: 0, since, target, ..value };
+            assert_eq!(receiver(&receiver_bytes(&waits)), Ok(waits));
+        }
     }
-    assert_eq!(fresh(), [63, 0, 0, 0, 0, 0, 0, 0, 0, 0, 0]);
+    assert_eq!(fresh(), [63, 0, 0, 0, 0, 0, 0, 0, 0, 0, 0, 0, 0]);
+}
+
+#[test]
+fn a_receiver_in_its_bytes() {
+    let given = Some(Message::Extended { house: 1, unit: 2, data: 3, command: 4 });
+    let value = Receiver { past: 14, at: 0, bits: 0x89AB_CDEF, given, since: 24, target: 62 };
+    assert_eq!(receiver_bytes(&value), [14, 0, 0x89, 0xAB, 0xCD, 0xEF, 3, 1, 2, 3, 4, 24, 62]);
 }
 
 #[test]
 fn what_is_no_receiver() {
     let with = |given: [u8; MESSAGE]| {
         let mut state = fresh();
-        state[6..].copy_from_slice(&given);
+        state[6..11].copy_from_slice(&given);
         receiver(&state)
     };
     for given in [[0, 1, 0, 0, 0], [4, 0, 0, 0, 0], [1, 0, 0, 1, 0], [2, 0, 2, 0, 1], [2, 0, 7, 0, 0]] {
         assert_eq!(with(given), Err(Refusal::State), "{given:?}");
     }
     assert!(with([3, 0, 0, 0, 0]).is_ok());
-    assert_eq!(receiver(&[0; 10]), Err(Refusal::State));
-    assert_eq!(receiver(&[0; 12]), Err(Refusal::State));
-    assert_eq!(receiver(&[]), Err(Refusal::State));
+    // 11 were those of a receiver that does not wait.
+    for len in [0, 11, 12, 14] {
+        assert_eq!(receiver(&vec![0; len]), Err(Refusal::State));
+    }
+    assert!(receiver(&[0; 13]).is_ok());
 }
 
 #[test]
@@ -189,6 +211,20 @@ fn a_message_that_is_not_carried_within_a_slice() {
     let run = Run::over(&mut fresh(), &line(&[NOT_CARRIED, A_ON]), &mut table, &mut windows());
     assert_eq!(run.said(), [(GIVEN, 4), (REPEAT, 0), (GIVEN, 2 << 8), (REPEAT, 0)]);
     assert_eq!((run.counts, table[1], table[9]), (Counts { modules: 2, shutters: 0 }, 63, 63));
+}
+
+#[test]
+fn a_second_copy_after_damage_is_applied() {
+    // A pair of the first copy is damaged, then one of the second, which is repeated no more.
+    for (place, said) in
+        [(9, [(BROKEN_PAIR, 0), (GIVEN, 2 << 8)]), (9 + 22, [(GIVEN, 2 << 8), (BROKEN_PAIR, 0)])]
+    {
+        let (mut table, mut halves) = (room(), line(&[A_ON]));
+        halves[place] ^= 1;
+        let run = Run::over(&mut fresh(), &halves, &mut table, &mut windows());
+        assert_eq!(run.said(), said);
+        assert_eq!((run.counts, table[1], table[9]), (Counts { modules: 2, shutters: 0 }, 63, 63));
+    }
 }
 
 #[test]

@@ -1,4 +1,4 @@
--- `put_bytes` meets its contract: the eleven stores are the whole list anew.
+-- `put_bytes` meets its contract: the thirteen stores are the whole list anew.
 use native.Mathlib.Omega.{arith}
 use lib.ListN.{length-set}
 use Rattle.receiver.proofs.RunLaws.{receiver-placed}
@@ -11,6 +11,9 @@ five-given-requires c κs = search needs
 
 slice-write-state : tie.Need-slice-write-state
 slice-write-state c = search needs
+
+frame-byte-requires : tie.Need-frame-byte-requires
+frame-byte-requires c κs = search needs
 
 slice-write-state-2 : tie.Need-slice-write-state-2
 slice-write-state-2 c = search needs
@@ -54,13 +57,28 @@ slice-write-state-10 c = simp length-set (omega arith)
 slice-write-state-11 : tie.Need-slice-write-state-11
 slice-write-state-11 c = simp length-set (omega arith)
 
+since-byte-requires : tie.Need-since-byte-requires
+since-byte-requires c κs = search needs
+
+slice-write-state-12 : tie.Need-slice-write-state-12
+slice-write-state-12 c = simp length-set (omega arith)
+
+target-byte-requires : tie.Need-target-byte-requires
+target-byte-requires c κs = search needs
+
+slice-write-state-13 : tie.Need-slice-write-state-13
+slice-write-state-13 c = simp length-set (omega arith)
+
 same-length : tie.Need-same-length
 same-length c = simp length-set
 
 returns : tie.Need-returns
-returns c = let a = c .before .before .before .before .before .before .args in receiver-placed (a .r)
-    (c .before .before .before .before .five-given .result) (a .state .now) (c .before .before .before .before .before .before .pre)
-    (c .before .before .before .before .five-given .ensures)
+returns c =
+    let framed = c .before .before .before .before .before .before in
+    let called = framed .before .before .before in
+    let five = framed .before .five-given in
+    receiver-placed (called .args .r) (five .result) (called .args .state .now) (framed .frame-byte .result) (c .before .since-byte .result)
+    (c .target-byte .result) (called .pre) (five .ensures) (framed .frame-byte .ensures) (c .before .since-byte .ensures) (c .target-byte .ensures)
 
 pub put-bytes-spec : {M : Type 1} → statement M
 put-bytes-spec =
@@ -68,6 +86,7 @@ put-bytes-spec =
     (tie.spec
     five-given-requires
     slice-write-state
+    frame-byte-requires
     slice-write-state-2
     cast-state
     slice-write-state-3
@@ -82,5 +101,9 @@ put-bytes-spec =
     slice-write-state-9
     slice-write-state-10
     slice-write-state-11
+    since-byte-requires
+    slice-write-state-12
+    target-byte-requires
+    slice-write-state-13
     same-length
     returns)
