@@ -45,14 +45,14 @@ abbrev pub targetByte : ℕ → ℕ
 targetByte at = pick (leb at 62) 0 (pick (leb at 127) 22 62)
 
 -- 255, a place that there is not, where the three say none
-abbrev pub NOWHERE : ℕ
-NOWHERE = 255
+abbrev pub NO-PLACE : ℕ
+NO-PLACE = 255
 
 unfoldable pub placeFrom : ℕ → ℕ → ℕ → ℕ
 placeFrom at since target =
-    pick (eqb target 0) (pick (eqb since 0 && leb at 62) at NOWHERE)
-    (pick (eqb target 22) (pick (eqb at 0 && leb since (22 + 3)) (near since) NOWHERE)
-    (pick (eqb target 62) (pick (eqb at 0 && leb since (62 + 3)) (far since) NOWHERE) NOWHERE))
+    pick (eqb target 0) (pick (eqb since 0 && leb at 62) at NO-PLACE)
+    (pick (eqb target 22) (pick (eqb at 0 && leb since (22 + 3)) (near since) NO-PLACE)
+    (pick (eqb target 62) (pick (eqb at 0 && leb since (62 + 3)) (far since) NO-PLACE) NO-PLACE))
 
 -- the message given before, or none, as five bytes keep it
 abbrev pub givenAs : KeptRead → GivenRead

@@ -76,16 +76,20 @@ receiverOk r = leb (r .past) 63 && ((pairsOk (r .at) (r .bits) || waitingOk (r .
 abbrev pub shifted : ℕ → ℕ → ℕ
 shifted past h = past % 32 * 2 + h
 
+-- it stands at a place, with no bits and no message given directly before
+abbrev pub bareAt : ℕ → ℕ → Receiver
+bareAt past at = record { past = past; at = at; bits = 0; given = No }
+
 -- it hunts, and waits for a start if `at` is not 0
 abbrev pub waiting : ℕ → ℕ → Receiver
-waiting past at = record { past = past; at = at; bits = 0; given = No }
+waiting past at = bareAt past at
 
 abbrev pub hunting : ℕ → Receiver
 hunting past = waiting past 0
 
--- it reads from the first pair of a frame on, no message having been given directly before
+-- it reads from the first pair of a frame on
 abbrev pub started : ℕ → Receiver
-started past = record { past = past; at = 5; bits = 0; given = No }
+started past = bareAt past 5
 
 abbrev pub says : Event → Receiver → Heard
 says e r = record { event = e; next = r }

@@ -12,7 +12,7 @@ ghost use lib.Dec.{leb};
 ghost use Rattle.ground.specs.Choice.{pick};
 ghost use Rattle.ground.specs.Refusals.{refusalNumber, judged};
 ghost use Rattle.receiver.specs.Receivers.{eventNumber, freshReceiver, pairsOk, givenOk, waitingOk, receiverOk, stepCauses, stepOf, brokenNumber};
-ghost use Rattle.receiver.specs.Receivers.{shifted, waiting, hunting, started, says, huntOf, awaitOf, isRepeat, completeOf};
+ghost use Rattle.receiver.specs.Receivers.{shifted, bareAt, waiting, hunting, started, says, huntOf, awaitOf, isRepeat, completeOf};
 ghost use Rattle.receiver.specs.Receivers.{readingOf, pairOf, broken, readOf, takesOf};
 
 pub mod lent;
@@ -109,9 +109,9 @@ fn saying(event: Event, next: Receiver) -> Heard
     }
 }
 
-// A receiver that hunts, and waits for a start if `at` is not 0.
-fn waits(past: u8, at: u8) -> Receiver
-    ensures { λ r. ⌜ r ≡ waiting past at ⌝ }
+// A receiver at a place, with no bits and no message given directly before.
+fn bare(past: u8, at: u8) -> Receiver
+    ensures { λ r. ⌜ r ≡ bareAt past at ⌝ }
 {
     Receiver {
         past: past,
@@ -121,22 +121,24 @@ fn waits(past: u8, at: u8) -> Receiver
     }
 }
 
+// A receiver that hunts, and waits for a start if `at` is not 0.
+fn waits(past: u8, at: u8) -> Receiver
+    ensures { λ r. ⌜ r ≡ waiting past at ⌝ }
+{
+    bare(past, at)
+}
+
 fn hunts(past: u8) -> Receiver
     ensures { λ r. ⌜ r ≡ hunting past ⌝ }
 {
-    waits(past, 0)
+    bare(past, 0)
 }
 
-// A receiver that reads from the first pair of a frame on, no message having been given directly before.
+// A receiver that reads from the first pair of a frame on.
 fn starts(past: u8) -> Receiver
     ensures { λ r. ⌜ r ≡ started past ⌝ }
 {
-    Receiver {
-        past: past,
-        at: 5,
-        bits: 0,
-        given: Given::No,
-    }
+    bare(past, 5)
 }
 
 // Whether some pair of equal half-cycles, with calls after it, leads to this waiting: 64 + k with k from 6 to 25, or 128 + k with k from 24 to 65.

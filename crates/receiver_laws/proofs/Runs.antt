@@ -11,6 +11,7 @@ use Rattle.receiver.specs.Hearing.{eventsOf, receiverAfter}
 use Rattle.receiver.specs.declared.Receiver.{Receiver}
 use Rattle.receiver.specs.declared.Event.{Event}
 use Rattle.receiver.specs.declared.Heard.{Heard}
+pub use Rattle.receiver.proofs.ReadBack.{events-append, after-append}
 
 pub record Run (r : Receiver) (hs : List ℕ) (es : List Event) (s : Receiver) : Type 0 where
   pub events : eventsOf r hs ≡ es
@@ -26,16 +27,6 @@ run-more {hs = hs} p q = record {
   events = ap₂ _∷_ (ap (λ (x : Heard). x .event) p) (ap (λ (x : Heard). eventsOf (x .next) hs) p ∙ q .events);
   stands = ap (λ (x : Heard). receiverAfter (x .next) hs) p ∙ q .stands;
 }
-
-pub events-append : (r : Receiver) (hs ks : List ℕ) → eventsOf r (hs ++ ks) ≡ eventsOf r hs ++ eventsOf (receiverAfter r hs) ks
-unfolding eventsOf receiverAfter
-events-append r [] ks = refl
-events-append r (h ∷ hs) ks = ap (λ (es : List Event). stepOf r h .event ∷ es) (events-append (stepOf r h .next) hs ks)
-
-pub after-append : (r : Receiver) (hs ks : List ℕ) → receiverAfter r (hs ++ ks) ≡ receiverAfter (receiverAfter r hs) ks
-unfolding receiverAfter
-after-append r [] ks = refl
-after-append r (h ∷ hs) ks = after-append (stepOf r h .next) hs ks
 
 pub run-append : {r s t : Receiver} {hs ks : List ℕ} {es fs : List Event} → Run r hs es s → Run s ks fs t → Run r (hs ++ ks) (es ++ fs) t
 run-append {r} {s} {t} {hs} {ks} p q = record {

@@ -172,6 +172,9 @@ led-only from at over d =
 
 -- ---- BROKEN 11 leads to none
 
+silent : Nothing ≡ BrokenUnsupported → ⊥
+silent e = let z : _≡_ {A = ℕ} 0 1 = cc in omega arith
+
 unsupported-complete : (g : Given) (m : Message) (past : ℕ) → completeOf g m past .event ≡ BrokenUnsupported → ⊥
 unfolding completeOf
 unsupported-complete g m past e = go (isRepeat g m) e
@@ -184,20 +187,20 @@ unsupported-complete g m past e = go (isRepeat g m) e
 unsupported-outcome : (r : Receiver) (bits past : ℕ) (x : Reading) → outcomeOf r bits past x .event ≡ BrokenUnsupported
     → outcomeOf r bits past x .next .at ≡ 0
 unsupported-outcome r bits past (Says m) e = absurd (unsupported-complete (r .given) m past e)
-unsupported-outcome r bits past Longer e = absurd (let z : _≡_ {A = ℕ} 0 1 = cc in omega arith)
+unsupported-outcome r bits past Longer e = absurd (silent e)
 unsupported-outcome r bits past Unsupported e = refl
 unsupported-outcome r bits past (NotRead why) e = absurd (let z : _≡_ {A = ℕ} 0 1 = cc in omega arith)
 
 unsupported-taken : (r : Receiver) (h : ℕ) {o : Heard} → Taken r h o → o .event ≡ BrokenUnsupported → o .next .at ≡ 0
 unfolding huntOf
-unsupported-taken r h (hunted t) e = absurd (let z : _≡_ {A = ℕ} 0 1 = cc in omega arith)
-unsupported-taken r h (lapsed a) e = absurd (let z : _≡_ {A = ℕ} 0 1 = cc in omega arith)
-unsupported-taken r h (awaited a) e = absurd (let z : _≡_ {A = ℕ} 0 1 = cc in omega arith)
-unsupported-taken r h (first a most odd) e = absurd (let z : _≡_ {A = ℕ} 0 1 = cc in omega arith)
+unsupported-taken r h (hunted t) e = absurd (silent e)
+unsupported-taken r h (lapsed a) e = absurd (silent e)
+unsupported-taken r h (awaited a) e = absurd (silent e)
+unsupported-taken r h (first a most odd) e = absurd (silent e)
 unsupported-taken r h (equal a most even same) e = absurd (let z : _≡_ {A = ℕ} 0 1 = cc in omega arith)
 unsupported-taken r h (ninth n d) e = unsupported-outcome r (bitsAfter r) (shifted (r .past) h) (standardOf (bitsAfter r)) e
 unsupported-taken r h (last n d) e = absurd (unsupported-complete (r .given) (extendedOf (bitsAfter r)) (shifted (r .past) h) e)
-unsupported-taken r h (paired a most even d n n′) e = absurd (let z : _≡_ {A = ℕ} 0 1 = cc in omega arith)
+unsupported-taken r h (paired a most even d n n′) e = absurd (silent e)
 
 unsupported-hunts : (r : Receiver) (h : ℕ) → stepOf r h .event ≡ BrokenUnsupported → stepOf r h .next .at ≡ 0
 unfolding stepOf judged
