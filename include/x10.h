@@ -30,13 +30,13 @@ extern "C" {
 
 /* The version of this header and of the library: major * 10,000 + minor * 100 + patch. While the
  * major number is 0, a minor version may change what is exported. */
-#define X10_VERSION 1200
-#define X10_VERSION_TEXT "0.12.0"
+#define X10_VERSION 1300
+#define X10_VERSION_TEXT "0.13.0"
 
 /* Numbers given back: 0, those of refusals, and of the two BROKEN events. */
 enum x10_result {
     X10_OK = 0,
-    X10_TABLE = 1,         /* the module table's length is not 2,064 */
+    X10_TABLE = 1,         /* the module table's length is not 2,080 */
     X10_MESSAGE = 2,       /* a house or unit above 15, a kind or function code that makes no message */
     X10_RECORD = 3,        /* the module table breaks a rule */
     X10_NOT_CARRIED = 4,   /* a message that tables do not carry */
@@ -66,7 +66,7 @@ static inline const char *x10_text(uint8_t number)
 {
     switch (number) {
     case X10_OK: return "done";
-    case X10_TABLE: return "TABLE: the module table's length is not 2,064";
+    case X10_TABLE: return "TABLE: the module table's length is not 2,080";
     case X10_MESSAGE: return "MESSAGE: house or unit above 15, or no message";
     case X10_RECORD: return "RECORD: the module table breaks a rule";
     case X10_NOT_CARRIED: return "NOT CARRIED: tables do not carry this message";
@@ -136,7 +136,7 @@ static inline const char *x10_function_name(uint8_t code)
 #define X10_STATION_BYTES 8
 #define X10_EVENT_BYTES 6
 #define X10_ANSWER_BYTES 8
-#define X10_TABLE_BYTES 2064
+#define X10_TABLE_BYTES 2080
 #define X10_SHUTTER_TABLE_BYTES 5120
 #define X10_MOST_STATIONS 16
 
@@ -178,10 +178,13 @@ uint64_t x10_radio_write(uint8_t command, uint8_t house, uint8_t unit, uint8_t *
  * of out; bytes beyond them stay. Count: 3. Refusals: 9, where out_len is below 3; 12, 13, 14. */
 uint64_t x10_radio_read(const uint8_t *code, size_t code_len, uint8_t *out, size_t out_len);
 
-/* A module table is 2,064 bytes: 256 records of 8 in order A1 to P16, then one "command heard" byte for
- * each house. docs/TABLE.md says which values they take; all zeros is a table with no module. */
+/* A module table is 2,080 bytes: 256 records of 8 in order A1 to P16, then one "command heard" byte for
+ * each house, then one byte for each house with the number of its modules above level 0, lamps and
+ * appliances, which the routines keep. docs/TABLE.md says which values they take; all zeros is a table
+ * with no module. A caller who writes levels into a table writes that byte to match. */
 #define X10_RECORD_BYTES 8
 #define X10_HEARD_AT 2048
+#define X10_LIT_AT 2064
 
 /* A record's bytes: its kind; level 0 to 63; addressed 0 or 1; its groups, bit g for group g; four
  * presets, group 0 first. */
@@ -240,6 +243,12 @@ static inline size_t x10_shutter_at(uint8_t house, uint8_t unit)
  * Refusals, in this order: 1, 16, 2, 3, 17, 4, 18. */
 uint64_t x10_apply(uint8_t *table, size_t len, uint8_t *shutters, size_t shutters_len, uint8_t kind,
                    uint8_t house, uint8_t third, uint8_t data, uint8_t command);
+
+/* How many modules of a house are above level 0: the count, 0 to 16. It is the table's byte at
+ * X10_LIT_AT + house, and nothing else of the table is looked at: one that breaks other rules, or whose
+ * byte is not the count of those modules, is answered all the same, while x10_apply refuses it by 3.
+ * Refusals: 1; 2, for a house above 15; 3, where that byte is above 16. */
+uint64_t x10_lit(const uint8_t *table, size_t len, uint8_t house);
 
 /* A station is 8 bytes: the message that it holds, five zeros where it is empty; the wait drawn, 8 to
  * 10; its count of clear half-cycles in a row; how many half-cycles of its burst it has sent. Bytes

@@ -1,5 +1,5 @@
 /* "House A, all lights on": its burst, heard on the mains for tables with one dark lamp, A1, and no
- * shutter; then the refusal of a buffer that is one byte short. */
+ * shutter; how many are lit then; and the refusal of a buffer that is one byte short. */
 #include <stdio.h>
 #include "x10.h"
 
@@ -25,6 +25,7 @@ int main(void)
             printf("%zu: message, number %d, modules %d\n", i + 1, x10_number(to), x10_modules(to));
         if (events[X10_EVENT_BYTES * i] == X10_REPEAT) printf("%zu: repeat\n", i + 1);
     }
+    printf("lit in house A: %d\n", (int)x10_count(x10_lit(table, sizeof table, 0)));
 
     answer = x10_burst(X10_FUNCTION, 0, X10_ALL_LIGHTS_ON, 0, 0, line, 43);
     printf("number %d, count %d\n", x10_number(answer), (int)x10_count(answer));

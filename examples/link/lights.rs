@@ -1,5 +1,5 @@
 //! "House A, all lights on": its burst, heard on the mains for tables with one dark lamp, A1, and no
-//! shutter; then the refusal of a buffer that is one byte short.
+//! shutter; how many are lit then; and the refusal of a buffer that is one byte short.
 
 use x10::{Answer, Event, Message};
 
@@ -33,6 +33,7 @@ fn main() {
             _ => {}
         }
     }
+    println!("lit in house A: {}", x10::lit(&table, 0).count());
 
     let answer = x10::burst(lights_on, &mut line[..43]);
     println!("number {}, count {}", answer.number(), answer.count());

@@ -13,7 +13,7 @@ use Rattle.radio.specs.declared.RadioCommand.the-variants.{On as RadioOn, Off a
 use Rattle.plan.specs.Plans.{planAnswer}
 use Rattle.plan.specs.declared.Plan.{Plan}
 use Rattle.plan.specs.declared.Plan.the-variants.{Run, Move, Refused}
-use Rattle.record.specs.ModuleTable.{stepRecord}
+use Rattle.record.specs.ModuleTable.{litOf, stepRecord}
 use Rattle.record.specs.declared.Record.{Record}
 
 -- an addressed module of this kind (1 lamp, 2 appliance) at this level, in no group
@@ -27,9 +27,9 @@ LAMP = 1
 abbrev pub APPLIANCE : ℕ
 APPLIANCE = 2
 
--- the level of unit 1's module once a plan is carried out, in a house that has heard no command since the address
+-- the level of unit 1's module once a plan is carried out, in a house that has no other and has heard no command since the address
 abbrev pub levelAfter : Plan → Record → ℕ
-levelAfter (Run a) r = stepRecord a (record { heard = 0 }) 0 r .level
+levelAfter (Run a) r = stepRecord a (record { heard = 0; lit = litOf r }) 0 r .level
 levelAfter (Move a) r = r .level
 levelAfter (Refused why) r = r .level
 

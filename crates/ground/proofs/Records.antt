@@ -8,13 +8,16 @@
 --     same-records                                        tables that are equal record by record are equal
 --     lent-records                                        LentRecords
 --     each-length, each-other, each-at, each-byte         n records stepped
+--     sum-ext, sum-at-most, one-at-most                   a sum of equal numbers, and of numbers of at most 1
 --     differing-ext, differing-before, differing-none, differing-at-most, differing-put, differing-as      the count of records that differ in a value
+--     stepped-length                                      one record stepped
 --     Turn, turn-first, turn-length, turn-next, turn-last                  a turn of a loop that steps records and counts
 --     below-at, below-all, below-not                      a test at every number, and at one
---     below-add, below-next                               a test at every number, in two parts; one run of n numbers more
+--     below-and                                           two tests at every number
+--     below-add, below-next, below-runs                   a test at every number, in two parts; one run of n numbers more, and m runs
 --     zeros-in, zeros-each                                a byte of a part of zeros; records of zeros are judged as one of them
 use mathlib.Core.Path.{_≡_, refl, sym, ap, ap₂, subst, _∙_}
-use mathlib.Core.Bool.{Bool, true, false, _&&_, false≢true, and-true, and-assoc, and-eq-true-iff}
+use mathlib.Core.Bool.{Bool, true, false, _&&_, false≢true, and-true, and-false, and-assoc, and-eq-true-iff}
 use mathlib.Core.List.{List, [], _∷_}
 use mathlib.Core.Logic.{_⊎_, inl, inr, ⊎-elim}
 use Prim.Native.Nat.{ℕ, zero, suc, _+_, _-_, _*_, _/_, _%_, _≤_, _<_}
@@ -28,7 +31,7 @@ use lib.Dec.{eqb}
 use lib.ListN.{length, getD, set, take, drop, length-set, length-drop}
 use lib.Seq.{sets, length-sets, getD-set-same, getD-set-other, set-comm, ext-getD, length-take-le, getD-take, getD-drop}
 use Rattle.ground.specs.Choice.{pick}
-use Rattle.ground.specs.Records.{Layout, putAt, stepEach, Stepped, allBelow, zeros, eachOk, differing, valueAt, LaidOut, Sound, RecordsLieApart}
+use Rattle.ground.specs.Records.{Layout, putAt, stepEach, Stepped, allBelow, zeros, eachOk, sumBelow, differing, valueAt, LaidOut, Sound, RecordsLieApart}
 use Rattle.ground.specs.Records.{LentRecords}
 use Rattle.ground.proofs.Choices.{pick-both}
 
@@ -81,14 +84,34 @@ below-not f n i h e = go (allBelow n f) refl
     go true all = absurd (false≢true (sym e ∙ below-at f n all i h))
     go false some = some
 
+pub below-and : (f g : ℕ → Bool) (n : ℕ) → allBelow n (λ i. f i && g i) ≡ (allBelow n f && allBelow n g)
+unfolding allBelow
+below-and f g zero = refl
+below-and f g (suc n) = ap (λ (b : Bool). b && (f n && g n)) (below-and f g n) ∙ middle (allBelow n f) (allBelow n g) (f n) (g n)
+  where
+    and-left : (b c d : Bool) → (b && (c && d)) ≡ (c && (b && d))
+    and-left true c d = refl
+    and-left false c d = sym (and-false c)
+
+    middle : (a b c d : Bool) → ((a && b) && (c && d)) ≡ ((a && c) && (b && d))
+    middle true b c d = and-left b c d
+    middle false b c d = refl
+
 pub below-add : (f : ℕ → Bool) (m n : ℕ) → (allBelow m f && allBelow n (λ k. f (m + k))) ≡ allBelow (m + n) f
 unfolding allBelow
 below-add f m zero = and-true (allBelow m f) ∙ ap (λ (k : ℕ). allBelow k f) (sym (add-zero m))
 below-add f m (suc n) =
     rw (add-suc m n) (sym (and-assoc (allBelow m f) (allBelow n (λ k. f (m + k))) (f (m + n))) ∙ ap (λ (b : Bool). b && f (m + n)) (below-add f m n))
 
+-- one run of n numbers more, and m runs of them
 pub below-next : (f : ℕ → Bool) (m n : ℕ) → (allBelow (m * n) f && allBelow n (λ k. f (m * n + k))) ≡ allBelow ((m + 1) * n) f
 below-next f m n = below-add f (m * n) n ∙ ap (λ (k : ℕ). allBelow k f) (sym (ap (λ (k : ℕ). k * n) (add-one m) ∙ suc-mul m n))
+
+pub below-runs : (f : ℕ → Bool) (m n : ℕ) → allBelow m (λ i. allBelow n (λ k. f (i * n + k))) ≡ allBelow (m * n) f
+unfolding allBelow
+below-runs f zero n = ap (λ (k : ℕ). allBelow k f) (sym (zero-mul n))
+below-runs f (suc m) n =
+    ap (λ (b : Bool). b && allBelow n (λ k. f (m * n + k))) (below-runs f m n) ∙ below-next f m n ∙ ap (λ (k : ℕ). allBelow (k * n) f) (add-one m)
 
 -- ---- two runs of stores that do not meet
 
@@ -300,39 +323,45 @@ module _ {R : Type 0} (L : Layout R) (laid : LaidOut L) (step : ℕ → R → R)
     each-byte (suc n) x d off =
         byte-put-apart L _ (made (after n) (first + n) n) (after n) (first + n) x d (off n (omega arith)) ∙ each-byte n x d (λ k hk. off k (omega arith))
 
+-- ---- a sum over numbers below another
+
+pub sum-ext : (f g : ℕ → ℕ) (n : ℕ) → ((i : ℕ) → i < n → f i ≡ g i) → sumBelow n f ≡ sumBelow n g
+unfolding sumBelow
+sum-ext f g zero e = refl
+sum-ext f g (suc n) e = ap₂ _+_ (sum-ext f g n (λ i h. e i (omega arith))) (e n (omega arith))
+
+pub sum-at-most : (f : ℕ → ℕ) (n : ℕ) → ((i : ℕ) → f i ≤ 1) → sumBelow n f ≤ n
+unfolding sumBelow
+sum-at-most f zero small = omega arith
+sum-at-most f (suc n) small = omega (arith, sum-at-most f n small, small n)
+
+pub one-at-most : (b : Bool) → pick b 0 1 ≤ 1
+one-at-most b = pick-both (λ (x : ℕ). x ≤ 1) b 0 1 (omega arith) (omega arith)
+
 -- ---- the count of records that differ
 
 module _ {R : Type 0} (L : Layout R) (value : R → ℕ) where
   pub differing-ext : (n : ℕ) (b t u : List ℕ) → ((i : ℕ) → i < n → value (L .at t i) ≡ value (L .at u i))
       → differing (valueAt L value) n b t ≡ differing (valueAt L value) n b u
-  unfolding differing
-  differing-ext zero b t u e = refl
-  differing-ext (suc n) b t u e = rw (differing-ext n b t u (λ i h. e i (omega arith)), e n (omega arith))
+  differing-ext n b t u e = sum-ext _ _ n (λ i h. ap (λ (x : ℕ). pick (eqb (value (L .at b i)) x) 0 1) (e i h))
 
   pub differing-before : (n : ℕ) (b c t : List ℕ) → ((i : ℕ) → i < n → value (L .at b i) ≡ value (L .at c i))
       → differing (valueAt L value) n b t ≡ differing (valueAt L value) n c t
-  unfolding differing
-  differing-before zero b c t e = refl
-  differing-before (suc n) b c t e = rw (differing-before n b c t (λ i h. e i (omega arith)), e n (omega arith))
+  differing-before n b c t e = sum-ext _ _ n (λ i h. ap (λ (x : ℕ). pick (eqb x (value (L .at t i))) 0 1) (e i h))
 
   pub differing-none : (n : ℕ) (t : List ℕ) → differing (valueAt L value) n t t ≡ 0
-  unfolding differing
+  unfolding sumBelow
   differing-none zero t = refl
   differing-none (suc n) t = rw (differing-none n t, eq-eqb (value (L .at t n)) (value (L .at t n)) refl)
 
   pub differing-at-most : (n : ℕ) (b t : List ℕ) → differing (valueAt L value) n b t ≤ n
-  unfolding differing
-  differing-at-most zero b t = omega arith
-  differing-at-most (suc n) b t =
-      let same = eqb (value (L .at b n)) (value (L .at t n)) in
-      let one : pick same 0 1 ≤ 1 = pick-both (λ (x : ℕ). x ≤ 1) same 0 1 (omega arith) (omega arith) in
-      omega (arith, differing-at-most n b t, one)
+  differing-at-most n b t = sum-at-most _ n (λ i. one-at-most (eqb (value (L .at b i)) (value (L .at t i))))
 
   module _ (laid : LaidOut L) where
     -- the last of n + 1 records put
     differing-last : (n : ℕ) (b t : List ℕ) (r : R) → Sound L r → n * L .size + L .size ≤ length t → L .at b n ≡ L .at t n
         → differing (valueAt L value) (suc n) b (putAt L t n r) ≡ differing (valueAt L value) (suc n) b t + pick (eqb (value (L .at t n)) (value r)) 0 1
-    unfolding differing
+    unfolding sumBelow
     differing-last n b t r sound hl e =
         rw (
           differing-ext n b (putAt L t n r) t (λ i h. ap value (put-other L laid t n i r sound (λ q. omega arith))),
@@ -344,7 +373,7 @@ module _ {R : Type 0} (L : Layout R) (value : R → ℕ) where
 
     pub differing-put : (n i : ℕ) (b t : List ℕ) (r : R) → Sound L r → i < n → i * L .size + L .size ≤ length t → L .at b i ≡ L .at t i
         → differing (valueAt L value) n b (putAt L t i r) ≡ differing (valueAt L value) n b t + pick (eqb (value (L .at t i)) (value r)) 0 1
-    unfolding differing
+    unfolding sumBelow
     differing-put zero i b t r sound hi hl e = absurd (not-suc-le-zero hi)
     differing-put (suc n) i b t r sound hi hl e = go (decLt i n) (λ h. differing-put n i b t r sound h hl e)
       where
@@ -361,9 +390,13 @@ module _ {R : Type 0} (L : Layout R) (value : R → ℕ) where
 -- a value that is another's is counted as that one
 pub differing-as : (value worth : List ℕ → ℕ → ℕ) → ((t : List ℕ) (i : ℕ) → value t i ≡ worth t i) → (n : ℕ) (b t : List ℕ)
     → differing value n b t ≡ differing worth n b t
-unfolding differing
-differing-as value worth same zero b t = refl
-differing-as value worth same (suc n) b t = rw (differing-as value worth same n b t, same b n, same t n)
+differing-as value worth same n b t = sum-ext _ _ n (λ i h. ap₂ (λ (x y : ℕ). pick (eqb x y) 0 1) (same b i) (same t i))
+
+-- ---- one record stepped
+
+pub stepped-length : {R : Type 0} (L : Layout R) (value : R → ℕ) (step : R → R) (i : ℕ) (b t : List ℕ) (answer : ℕ)
+    → Stepped L value step i b t answer → length t ≡ length b
+stepped-length L value step i b t answer new = ap length (new .table) ∙ length-put L b i (step (L .at b i))
 
 -- ---- a loop that steps records and counts
 

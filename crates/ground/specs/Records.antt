@@ -45,10 +45,14 @@ zeros t = allBelow (length t) (λ k. eqb (getD t k 0) 0)
 abbrev pub eachOk : {R : Type 0} → Layout R → (R → Bool) → ℕ → ℕ → List ℕ → Bool
 eachOk L ok first n t = allBelow n (λ k. ok (L .at t (first + k)))
 
+-- the sum of what each number below n gives
+unfoldable pub sumBelow : ℕ → (ℕ → ℕ) → ℕ
+sumBelow zero f = 0
+sumBelow (suc n) f = sumBelow n f + f n
+
 -- how many of the first n records have another value after than before; a value is read from the bytes and the record's place
-unfoldable pub differing : (List ℕ → ℕ → ℕ) → ℕ → List ℕ → List ℕ → ℕ
-differing value zero before after = 0
-differing value (suc n) before after = differing value n before after + pick (eqb (value before n) (value after n)) 0 1
+abbrev pub differing : (List ℕ → ℕ → ℕ) → ℕ → List ℕ → List ℕ → ℕ
+differing value n before after = sumBelow n (λ i. pick (eqb (value before i) (value after i)) 0 1)
 
 -- such a value, of the record that lies there
 abbrev pub valueAt : {R : Type 0} → Layout R → (R → ℕ) → List ℕ → ℕ → ℕ

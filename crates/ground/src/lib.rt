@@ -46,11 +46,11 @@ pub enum CountAnswer {
     Refused(Refusal),
 }
 
-// The count of one record, by whether its value stayed the same.
-pub fn count_of(same: bool) -> usize
-    ensures { λ r. ⌜ (r ≡ pick same 0 1) × (r ≤ 1) ⌝ }
+// The count of one record: 0 where it is passed over, as one whose value stayed the same, else 1.
+pub fn count_of(passed: bool) -> usize
+    ensures { λ r. ⌜ (r ≡ pick passed 0 1) × (r ≤ 1) ⌝ }
 {
-    if same { 0 } else { 1 }
+    if passed { 0 } else { 1 }
 }
 
 // Whether the bytes are all zeros. Every one is tested: with no early way out sixteen are tested at once.

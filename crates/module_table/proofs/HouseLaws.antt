@@ -4,17 +4,17 @@
 --                                                     a byte that is not the house's
 --     step-house-at                                   houses' own bytes after the steps
 --     run-length, run-record, run-byte                the same after an act is run
---     run-house, run-house-other                      houses' own bytes after it
+--     run-house, run-house-other, run-lit-other       houses' own bytes after it, and another house's lit modules
 --     Whole, whole                                    the three parts of a valid table
 --     run-stays-valid                                 a valid table stays valid
-use mathlib.Core.Path.{_≡_, refl, subst, _∙_}
+use mathlib.Core.Path.{_≡_, refl, sym, ap, ap₂, subst, _∙_}
 use mathlib.Core.Bool.{Bool, true, false, _&&_, and-eq-true-iff}
 use mathlib.Core.List.{List}
 use mathlib.Core.Logic.{inl, inr}
 use Prim.Native.Nat.{ℕ, _+_, _*_, _/_, _%_, _≤_, _<_}
 use native.Mathlib.Omega.{arith}
 use native.Mathlib.Decide.{decLt, ℕ-discrete}
-use borrow.Author.Tests.{eqb-true, eqb-false}
+use borrow.Author.Tests.{eqb-true, eqb-false, ne-eqb}
 use lib.Dec.{eqb}
 use lib.ListN.{length, getD}
 use Rattle.ground.specs.Choice.{pick}
@@ -23,11 +23,11 @@ use Rattle.ground.proofs.Choices.{pick-both}
 use Rattle.ground.proofs.Records.{Apart, each-length, each-other, each-at, each-byte, below-at, below-all}
 use Rattle.plan.specs.declared.Act.{Act}
 use Rattle.record.specs.declared.House.{House}
-use Rattle.record.specs.Layout.{RECORD-BYTES, UNITS, HOUSES, RECORDS, HEARD-AT, TABLE-BYTES, recordAt, modules, houseAt}
-use Rattle.record.specs.ModuleTable.{recordOk, houseOk, recordsOk, housesOk, tableOk, stepRecord, houseAfter, runAct}
+use Rattle.record.specs.Layout.{RECORD-BYTES, UNITS, HOUSES, RECORDS, HEARD-AT, LIT-AT, TABLE-BYTES, recordAt, modules, houseAt}
+use Rattle.record.specs.ModuleTable.{recordOk, litIn, houseOk, recordsOk, housesOk, tableOk, stepRecord, houseAfter, runAct}
 use Rattle.record.proofs.RecordLaws.{record-stays-valid, house-stays-valid}
 use Rattle.module_table.proofs.TableLaws.{modules-laid, step-keeps, length-put-house, byte-put-house, record-put-house}
-use Rattle.module_table.proofs.TableLaws.{house-put-own, house-put-other}
+use Rattle.module_table.proofs.TableLaws.{house-put-own, house-put-other, lit-ext, lit-put-house}
 
 -- ---- a house's records stepped
 
@@ -55,10 +55,15 @@ module _ (a : Act) (own : House) (h : ℕ) (t : List ℕ) where
       go k hk (yes before) = inl before
       go k hk (no behind) = inr (let low : h * 128 ≤ j = omega arith in let other′ : j / 128 ≡ h → ⊥ = other in omega arith)
 
+  -- a byte behind the records
+  step-behind : (j : ℕ) → h < HOUSES → HEARD-AT ≤ j → getD stepped j 0 ≡ getD t j 0
+  step-behind j house behind =
+      each-byte modules modules-laid (stepRecord a own) (step-keeps a own) (h * UNITS) t UNITS j 0 (λ k hk. inr (omega arith))
+
   pub step-house-at : (g : ℕ) → h < HOUSES → houseAt stepped g ≡ houseAt t g
   unfolding houseAt
   step-house-at g house =
-      rw (each-byte modules modules-laid (stepRecord a own) (step-keeps a own) (h * UNITS) t UNITS (HEARD-AT + g) 0 (λ k hk. inr (omega arith)))
+      ap₂ (λ (x y : ℕ). record { heard = x; lit = y }) (step-behind (HEARD-AT + g) house (omega arith)) (step-behind (LIT-AT + g) house (omega arith))
 
 -- ---- an act run
 
@@ -70,15 +75,19 @@ module _ (a : Act) (h : ℕ) (t : List ℕ) where
   abbrev after : List ℕ
   after = stepped a own h t
 
+  -- and its own bytes after
+  abbrev next : House
+  next = houseAfter a (litIn after h) own
+
   pub run-length : length (runAct a h t) ≡ length t
   unfolding runAct
-  run-length = length-put-house after h (houseAfter a own) ∙ length-step a own h t
+  run-length = length-put-house after h next ∙ length-step a own h t
 
   -- the record of each place, of the house and of another
   pub run-record : (i : ℕ) → i < RECORDS → length t ≡ TABLE-BYTES
       → recordAt (runAct a h t) i ≡ pick (eqb (i / UNITS) h) (stepRecord a (houseAt t h) (i % UNITS) (recordAt t i)) (recordAt t i)
   unfolding runAct
-  run-record i below size = record-put-house after i h (houseAfter a own) below ∙ go (eqb (i / UNITS) h) refl
+  run-record i below size = record-put-house after i h next below ∙ go (eqb (i / UNITS) h) refl
     where
       go : (b : Bool) → eqb (i / UNITS) h ≡ b → recordAt after i ≡ pick b (stepRecord a own (i % UNITS) (recordAt t i)) (recordAt t i)
       go true e =
@@ -89,19 +98,36 @@ module _ (a : Act) (h : ℕ) (t : List ℕ) where
       go false e = step-other a own h t i (eqb-false (i / UNITS) h e)
 
   -- a byte that is not the house's
-  pub run-byte : (k : ℕ) → (k / (UNITS * RECORD-BYTES) ≡ h → ⊥) → (k ≡ HEARD-AT + h → ⊥) → getD (runAct a h t) k 0 ≡ getD t k 0
+  pub run-byte : (k : ℕ) → (k / (UNITS * RECORD-BYTES) ≡ h → ⊥) → (k ≡ HEARD-AT + h → ⊥) → (k ≡ LIT-AT + h → ⊥) → getD (runAct a h t) k 0 ≡ getD t k 0
   unfolding runAct
-  run-byte k other past = byte-put-house after h k (houseAfter a own) past ∙ step-byte a own h t k other
+  run-byte k other heard lit = byte-put-house after h k next heard lit ∙ step-byte a own h t k other
 
   module _ (house : h < HOUSES) where
-    -- the house's own bytes, and another house's
-    pub run-house : length t ≡ TABLE-BYTES → houseAt (runAct a h t) h ≡ houseAfter a (houseAt t h)
+    -- the number of lit modules, by the records that are left
+    run-lit-own : litIn after h ≡ litIn (runAct a h t) h
     unfolding runAct
-    run-house size = house-put-own after h (houseAfter a own) (omega (arith, length-step a own h t))
+    run-lit-own = sym (lit-put-house after h h next house)
 
-    pub run-house-other : (g : ℕ) → (g ≡ h → ⊥) → houseAt (runAct a h t) g ≡ houseAt t g
+    -- the house's own bytes, and another house's
+    own-bytes : length t ≡ TABLE-BYTES → houseAt (runAct a h t) h ≡ next
     unfolding runAct
-    run-house-other g other = house-put-other after h g (houseAfter a own) other ∙ step-house-at a own h t g house
+    own-bytes size = house-put-own after h next house (length-step a own h t ∙ size)
+
+    pub run-house : length t ≡ TABLE-BYTES → houseAt (runAct a h t) h ≡ houseAfter a (litIn (runAct a h t) h) (houseAt t h)
+    run-house size = own-bytes size ∙ ap (λ (n : ℕ). houseAfter a n own) run-lit-own
+
+    pub run-house-other : (g : ℕ) → g < HOUSES → (g ≡ h → ⊥) → houseAt (runAct a h t) g ≡ houseAt t g
+    unfolding runAct
+    run-house-other g there other = house-put-other after h g next house there other ∙ step-house-at a own h t g house
+
+    -- and its lit modules
+    pub run-lit-other : (g : ℕ) → g < HOUSES → length t ≡ TABLE-BYTES → (g ≡ h → ⊥) → litIn (runAct a h t) g ≡ litIn t g
+    run-lit-other g there size other =
+        lit-ext (runAct a h t) t g UNITS
+        (λ k below.
+        let i = g * UNITS + k in
+        let far : eqb (i / UNITS) h ≡ false = ne-eqb (i / UNITS) h (λ e. other (omega arith)) in
+        run-record i (omega arith) size ∙ rw far)
 
 -- ---- a valid table
 
@@ -125,15 +151,17 @@ module _ (a : Act) (h : ℕ) (t : List ℕ) (house : h < HOUSES) (ok : tableOk t
       rw (run-record a h t i below (whole t ok .size))
       (pick-both (λ r. recordOk r ≡ true) (eqb (i / UNITS) h) _ _ (record-stays-valid a (houseAt t h) (i % UNITS) (recordAt t i) before) before)
 
-  houses-stay : (g : ℕ) → g < HOUSES → houseOk (houseAt (runAct a h t) g) ≡ true
+  houses-stay : (g : ℕ) → g < HOUSES → houseOk (litIn (runAct a h t) g) (houseAt (runAct a h t) g) ≡ true
   houses-stay g below = go (ℕ-discrete g h)
     where
-      before : (k : ℕ) → k < HOUSES → houseOk (houseAt t k) ≡ true
-      before = below-at (λ k. houseOk (houseAt t k)) HOUSES (whole t ok .houses)
+      before : (k : ℕ) → k < HOUSES → houseOk (litIn t k) (houseAt t k) ≡ true
+      before = below-at (λ k. houseOk (litIn t k) (houseAt t k)) HOUSES (whole t ok .houses)
 
-      go : Dec (g ≡ h) → houseOk (houseAt (runAct a h t) g) ≡ true
-      go (yes same) = rw (same, run-house a h t house (whole t ok .size)) (house-stays-valid a (houseAt t h) (before h house))
-      go (no other) = rw (run-house-other a h t house g other) (before g below)
+      go : Dec (g ≡ h) → houseOk (litIn (runAct a h t) g) (houseAt (runAct a h t) g) ≡ true
+      go (yes same) =
+          rw (same, run-house a h t house (whole t ok .size))
+          (house-stays-valid a (houseAt t h) (litIn t h) (litIn (runAct a h t) h) (before h house))
+      go (no other) = rw (run-house-other a h t house g below other, run-lit-other a h t house g below (whole t ok .size) other) (before g below)
 
   pub run-stays-valid : tableOk (runAct a h t) ≡ true
   unfolding tableOk
@@ -142,5 +170,5 @@ module _ (a : Act) (h : ℕ) (t : List ℕ) (house : h < HOUSES) (ok : tableOk t
         run-length a h t,
         whole t ok .long,
         below-all (λ i. recordOk (recordAt (runAct a h t) i)) RECORDS records-stay,
-        below-all (λ g. houseOk (houseAt (runAct a h t) g)) HOUSES houses-stay,
+        below-all (λ g. houseOk (litIn (runAct a h t) g) (houseAt (runAct a h t) g)) HOUSES houses-stay,
       )

@@ -21,7 +21,7 @@ use Rattle.ground.proofs.Records.{each-length, each-other, differing-put, diffe
 use Rattle.plan.specs.declared.Act.{Act}
 use Rattle.record.specs.declared.House.{House}
 use Rattle.record.specs.Layout.{UNITS, HOUSES, RECORDS, TABLE-BYTES, recordAt, modules, houseAt}
-use Rattle.record.specs.ModuleTable.{stepRecord, houseAfter, runAct, levelOf, changed}
+use Rattle.record.specs.ModuleTable.{litIn, stepRecord, houseAfter, runAct, levelOf, changed}
 use Rattle.module_table.specs.ModuleRuns.{actCauses, actAnswer, modulesAfter, ActLowest}
 use Rattle.module_table.proofs.TableLaws.{modules-laid, record-sound, step-keeps, record-put-house, changed-ext, changed-none}
 use Rattle.module_table.proofs.HouseLaws.{stepped}
@@ -64,5 +64,5 @@ unfolding runAct
 run-changed a h t house size =
     let own = houseAt t h in
     let after = stepped a own h t in
-    rw (changed-ext t (runAct a h t) after (λ i below. record-put-house after i h (houseAfter a own) below))
+    rw (changed-ext t (runAct a h t) after (λ i below. record-put-house after i h (houseAfter a (litIn after h) own) below))
     (step-changed a own h t house size UNITS (omega arith))

@@ -4,27 +4,33 @@
 --     record-ext, byte-of-record                        a record is made of its eight bytes, and they are its bytes
 --     modules-laid, record-sound                        so what holds of any table of records holds of a module table's
 --     step-keeps                                        and every act keeps to it
---     zeros-ok                                          a record of zeros keeps the rules
---     length-put-house, byte-put-house, record-put-house, house-put-own, house-put-other, house-put       records and houses' own bytes do not meet
+--     zeros-ok, zeros-dark                              a record of zeros keeps the rules, at level 0
+--     length-put-house, byte-put-house, record-put-house, house-put-own, house-put-other       records and houses' own bytes do not meet
+--     lit-ext, lit-put-house                            the number of lit modules is made of the records alone
+--     lit-next, lit-put, lit-none                       one unit more; a record put behind those counted; no level above 0
+--     by-houses                                         a table is judged house by house
 --     changed-ext, changed-none                         ground's laws, of the count of changed levels
 --     ran                                               an act run on a table
-use mathlib.Core.Path.{_≡_, refl, sym, ap, _∙_}
-use mathlib.Core.Bool.{true}
+use mathlib.Core.Path.{_≡_, refl, sym, ap, ap₂, _∙_}
+use mathlib.Core.Bool.{Bool, true, _&&_, and-assoc, and-comm, and-eq-true-iff}
 use mathlib.Core.List.{List, []}
-use mathlib.Core.Logic.{inr}
-use Prim.Native.Nat.{ℕ, zero, suc, _+_, _*_, _<_}
+use Prim.Native.Nat.{ℕ, zero, suc, _+_, _*_, _≤_, _<_}
 use native.Mathlib.Nat.{add-zero}
+use native.Mathlib.Numerals.{add-one}
 use native.Mathlib.Omega.{arith}
-use lib.ListN.{length, getD, length-set}
+use lib.ListN.{length, getD, set, length-set}
 use lib.Seq.{getD-set-same, getD-set-other}
-use Rattle.ground.specs.Records.{Sound, stepEach}
-use Rattle.ground.proofs.Records.{byte-put-apart, differing-ext, differing-none}
+use lib.Dec.{eqb}
+use Rattle.ground.specs.Records.{Sound, stepEach, allBelow, eachOk, sumBelow}
+use Rattle.ground.proofs.Records.{put-other, below-and, below-runs, sum-ext, differing-ext, differing-none}
 use Rattle.plan.specs.declared.Act.{Act}
-use Rattle.record.specs.Layout.{RECORD-BYTES, UNITS, RECORDS, HEARD-AT, recordAt, recordBytes, modules, put, houseAt, putHouse}
-use Rattle.record.specs.ModuleTable.{recordOk, stepRecord, houseAfter, runAct, levelOf, changed}
+use Rattle.record.specs.Layout.{RECORD-BYTES, UNITS, HOUSES, RECORDS, HEARD-AT, LIT-AT, TABLE-BYTES}
+use Rattle.record.specs.Layout.{recordAt, recordBytes, modules, put, litByte, houseAt, putHouse}
+use Rattle.record.specs.ModuleTable.{recordOk, heardOk, litOf, litTo, litIn, litOk, recordsOk, housesOk, stepRecord, houseAfter, runAct, levelOf, changed}
 use Rattle.record.specs.declared.Record.{Record}
 use Rattle.record.specs.declared.House.{House}
 use Rattle.module_table.specs.ModuleRuns.{ModulesLaid, ModulesSound}
+use Rattle.module_table.specs.Units.{unitsOk}
 
 -- ---- how the records lie
 
@@ -70,31 +76,82 @@ pub zeros-ok : recordOk (recordAt [] 0) ≡ true
 unfolding recordOk recordAt
 zeros-ok = refl
 
+pub zeros-dark : eqb (recordAt [] 0 .level) 0 ≡ true
+unfolding recordAt
+zeros-dark = refl
+
 -- ---- a house's own bytes
 
 pub length-put-house : (t : List ℕ) (h : ℕ) (own : House) → length (putHouse t h own) ≡ length t
 unfolding putHouse
-length-put-house t h own = length-set t (HEARD-AT + h) (own .heard)
+length-put-house t h own = length-set (set t (HEARD-AT + h) (own .heard)) (LIT-AT + h) (own .lit) ∙ length-set t (HEARD-AT + h) (own .heard)
 
-pub byte-put-house : (t : List ℕ) (h k : ℕ) (own : House) → (k ≡ HEARD-AT + h → ⊥) → getD (putHouse t h own) k 0 ≡ getD t k 0
+pub byte-put-house : (t : List ℕ) (h k : ℕ) (own : House) → (k ≡ HEARD-AT + h → ⊥) → (k ≡ LIT-AT + h → ⊥) → getD (putHouse t h own) k 0 ≡ getD t k 0
 unfolding putHouse
-byte-put-house t h k own other = getD-set-other t (HEARD-AT + h) k (own .heard) 0 other
+byte-put-house t h k own heard lit =
+    getD-set-other (set t (HEARD-AT + h) (own .heard)) (LIT-AT + h) k (own .lit) 0 lit ∙ getD-set-other t (HEARD-AT + h) k (own .heard) 0 heard
 
 pub record-put-house : (t : List ℕ) (i h : ℕ) (own : House) → i < RECORDS → recordAt (putHouse t h own) i ≡ recordAt t i
 record-put-house t i h own hi =
-    record-ext (putHouse t h own) t i i (λ k hk. byte-put-house t h (i * RECORD-BYTES + k) own (λ e. omega arith))
+    record-ext (putHouse t h own) t i i (λ k hk. byte-put-house t h (i * RECORD-BYTES + k) own (λ e. omega arith) (λ e. omega arith))
 
-pub house-put-own : (t : List ℕ) (h : ℕ) (own : House) → HEARD-AT + h < length t → houseAt (putHouse t h own) h ≡ own
+pub house-put-own : (t : List ℕ) (h : ℕ) (own : House) → h < HOUSES → length t ≡ TABLE-BYTES → houseAt (putHouse t h own) h ≡ own
 unfolding houseAt putHouse
-house-put-own t h own room = rw (getD-set-same t (HEARD-AT + h) (own .heard) 0 room)
+house-put-own t h own house size =
+    let heard = set t (HEARD-AT + h) (own .heard) in
+    let long : length heard ≡ length t = length-set t (HEARD-AT + h) (own .heard) in
+    ap₂ (λ (x y : ℕ). record { heard = x; lit = y })
+    (getD-set-other heard (LIT-AT + h) (HEARD-AT + h) (own .lit) 0 (λ e. omega arith) ∙ getD-set-same t (HEARD-AT + h) (own .heard) 0 (omega arith))
+    (getD-set-same heard (LIT-AT + h) (own .lit) 0 (omega arith))
 
-pub house-put-other : (t : List ℕ) (h g : ℕ) (own : House) → (g ≡ h → ⊥) → houseAt (putHouse t h own) g ≡ houseAt t g
+pub house-put-other : (t : List ℕ) (h g : ℕ) (own : House) → h < HOUSES → g < HOUSES → (g ≡ h → ⊥) → houseAt (putHouse t h own) g ≡ houseAt t g
 unfolding houseAt
-house-put-other t h g own other = rw (byte-put-house t h (HEARD-AT + g) own (λ e. other (omega arith)))
+house-put-other t h g own house there other =
+    ap₂ (λ (x y : ℕ). record { heard = x; lit = y })
+    (byte-put-house t h (HEARD-AT + g) own (λ e. other (omega arith)) (λ e. omega arith))
+    (byte-put-house t h (LIT-AT + g) own (λ e. omega arith) (λ e. other (omega arith)))
 
-pub house-put : (t : List ℕ) (i h : ℕ) (r : Record) → i < RECORDS → houseAt (put t i r) h ≡ houseAt t h
+-- ---- how many modules are lit
+
+pub lit-ext : (t u : List ℕ) (h n : ℕ) → ((k : ℕ) → k < n → recordAt t (h * UNITS + k) ≡ recordAt u (h * UNITS + k)) → litTo t h n ≡ litTo u h n
+lit-ext t u h n e = sum-ext _ _ n (λ k below. ap litOf (e k below))
+
+pub lit-put-house : (t : List ℕ) (g h : ℕ) (own : House) → g < HOUSES → litIn (putHouse t h own) g ≡ litIn t g
+lit-put-house t g h own there = lit-ext (putHouse t h own) t g UNITS (λ k below. record-put-house t (g * UNITS + k) h own (omega arith))
+
+-- one unit more
+pub lit-next : (t : List ℕ) (h n lit more : ℕ) → lit ≡ litTo t h n → more ≡ litOf (recordAt t (h * UNITS + n)) → lit + more ≡ litTo t h (n + 1)
+unfolding sumBelow
+lit-next t h n lit more so-far last = rw (add-one) (ap₂ _+_ so-far last)
+
+-- and those before it are as they were, where its record is put
+pub lit-put : (t u : List ℕ) (h n : ℕ) (r : Record) → u ≡ put t (h * UNITS + n) r → litTo t h n ≡ litTo u h n
+lit-put t u h n r stored =
+    lit-ext t u h n
+    (λ k below. sym (ap (λ (l : List ℕ). recordAt l (h * UNITS + k)) stored
+    ∙ put-other modules modules-laid t (h * UNITS + n) (h * UNITS + k) r (record-sound r) (λ e. omega arith)))
+
+-- none where each level is 0
+pub lit-none : (t : List ℕ) (h n : ℕ) → eachOk modules (λ r. eqb (r .level) 0) (h * UNITS) n t ≡ true → litTo t h n ≡ 0
+unfolding sumBelow allBelow
+lit-none t h zero dark = refl
+lit-none t h (suc n) dark =
+    let p = and-eq-true-iff (eachOk modules (λ r. eqb (r .level) 0) (h * UNITS) n t) (eqb (recordAt t (h * UNITS + n) .level) 0) .0 dark in
+    rw (lit-none t h n (p .0), p .1)
+
+-- ---- a table judged house by house
+
+pub by-houses : (t : List ℕ) → (allBelow HOUSES (unitsOk t) && allBelow HOUSES (λ h. heardOk (houseAt t h .heard))) ≡ (recordsOk RECORDS t && housesOk HOUSES t)
 unfolding houseAt
-house-put t i h r hi = rw (byte-put-apart modules r (record-sound r) t i (HEARD-AT + h) 0 (inr (omega arith)))
+by-houses t =
+    let ok : ℕ → Bool = λ i. recordOk (recordAt t i) in
+    let heard : ℕ → Bool = λ h. heardOk (houseAt t h .heard) in
+    let lit : ℕ → Bool = λ h. litOk (litIn t h) (litByte t h) in
+    let all = allBelow HOUSES in
+    let each : ℕ → Bool = λ h. allBelow UNITS (λ k. ok (h * UNITS + k)) in
+    ap (λ (b : Bool). b && all heard) (below-and each lit HOUSES ∙ ap (λ (b : Bool). b && all lit) (below-runs ok HOUSES UNITS))
+    ∙ and-assoc (recordsOk RECORDS t) (all lit) (all heard)
+    ∙ ap (λ (b : Bool). recordsOk RECORDS t && b) (and-comm (all lit) (all heard) ∙ sym (below-and heard lit HOUSES))
 
 -- ---- the count of changed levels
 
@@ -106,11 +163,11 @@ changed-none t = differing-none modules levelOf RECORDS t
 
 -- ---- an act run
 
-pub ran : (a : Act) (own next : House) (h : ℕ) (t u v : List ℕ) (count : ℕ) → own ≡ houseAt t h → next ≡ houseAfter a own
-    → (u ≡ stepEach modules (stepRecord a own) (h * UNITS) UNITS t) × (count ≡ changed t u) → v ≡ putHouse u h next
+pub ran : (a : Act) (own next : House) (h lit : ℕ) (t u v : List ℕ) (count : ℕ) → own ≡ houseAt t h → next ≡ houseAfter a lit own
+    → (u ≡ stepEach modules (stepRecord a own) (h * UNITS) UNITS t) × (count ≡ changed t u) × (lit ≡ litIn u h) × (lit ≤ UNITS) → v ≡ putHouse u h next
     → (v ≡ runAct a h t) × (count ≡ changed t v)
 unfolding runAct
-ran a own next h t u v count mine after stepped put = (
-  put ∙ rw (stepped .0, after, mine),
+ran a own next h lit t u v count mine after stepped put = (
+  put ∙ rw (after, stepped .2, stepped .0, mine),
   stepped .1 ∙ sym (changed-ext t v u (λ i hi. ap (λ (l : List ℕ). recordAt l i) put ∙ record-put-house u i h next hi)),
 )

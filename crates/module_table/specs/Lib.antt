@@ -1,2 +1,3 @@
 pub mod ModuleRuns
 pub mod Reaches
+pub mod Units

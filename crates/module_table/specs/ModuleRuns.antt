@@ -15,7 +15,7 @@ use Rattle.record.specs.declared.Record.{Record}
 use Rattle.record.specs.Layout.{TABLE-BYTES, modules}
 use Rattle.record.specs.ModuleTable.{runAct, changed}
 
--- "TABLE: table length not 2,064", "MESSAGE: house .. above 15"
+-- TABLE: "1 now speaks of 2,080" (02, A3); "MESSAGE: house .. above 15"
 abbrev pub actCauses : ℕ → List ℕ → List Cause
 actCauses h t = unless (eqb (length t) TABLE-BYTES) refusal.Table ∷ unless (leb h 15) refusal.Message ∷ []
 

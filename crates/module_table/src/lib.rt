@@ -8,11 +8,12 @@ use plan::Act;
 use record::HEARD_AT;
 use record::HOUSES;
 use record::House;
+use record::LIT_AT;
 use record::RECORD_BYTES;
 use record::Record;
 use record::TABLE_BYTES;
 use record::UNITS;
-use record::house_valid;
+use record::heard_valid;
 use record::step::addressed_after;
 use record::step::groups_after;
 use record::step::house_after;
@@ -20,16 +21,17 @@ use record::step::keeps_groups;
 use record::step::level_after;
 ghost use mathlib.Core.Path.{_≡_};
 ghost use mathlib.Core.Bool.{true, false};
-ghost use Prim.Native.Nat.{ℕ, _*_, _<_};
+ghost use Prim.Native.Nat.{ℕ, _*_, _≤_, _<_};
 ghost use lib.ListN.{length};
 ghost use Rattle.ground.specs.Choice.{pick};
-ghost use Rattle.ground.specs.Records.{stepEach, Stepped, eachOk};
+ghost use Rattle.ground.specs.Records.{stepEach, Stepped, allBelow, eachOk};
 ghost use Rattle.record.specs.declared.Record.{Record};
 ghost use Rattle.record.specs.declared.House.{House};
 ghost use Rattle.record.specs.Layout.{RECORDS, HOUSES, UNITS, TABLE-BYTES, present, recordAt, modules, put, houseAt, putHouse};
-ghost use Rattle.record.specs.ModuleTable.{recordOk, houseOk, recordsOk, housesOk, tableOk, obeyed, stepRecord, levelOf, runAct, changed};
+ghost use Rattle.record.specs.ModuleTable.{recordOk, heardOk, litOf, litIn, tableOk, obeyed, stepRecord, levelOf, runAct, changed};
 ghost use Rattle.record.specs.Parts.{keepsGroups};
 ghost use Rattle.module_table.specs.ModuleRuns.{actAnswer, modulesAfter};
+ghost use Rattle.module_table.specs.Units.{unitsOk};
 ghost use Rattle.module_table.specs.Reaches.{mayChange, Spares};
 
 // The bytes of a house's records.
@@ -69,13 +71,14 @@ fn store(t: &mut [u8], i: usize, r: Record)
     t[at + 7] = r.preset3;
 }
 
-// The bytes of a house beside its records': read here, and written below, and nowhere else.
+// The bytes of a house beside its records': in this crate they are read here, and written below, and nowhere else.
 fn house_at(t: &[u8], house: usize) -> House
     requires { ⌜ (length (now t) ≡ TABLE-BYTES) × (house < HOUSES) ⌝ }
     ensures { λ r. ⌜ r ≡ houseAt (now (t .entry)) house ⌝ }
 {
     House {
         heard: t[HEARD_AT + house],
+        lit: t[LIT_AT + house],
     }
 }
 
@@ -84,6 +87,7 @@ fn put_house(t: &mut [u8], house: usize, own: House)
     ensures { λ _. ⌜ now (t .exit) ≡ putHouse (now (t .entry)) house own ⌝ }
 {
     t[HEARD_AT + house] = own.heard;
+    t[LIT_AT + house] = own.lit;
 }
 
 // Whether record i of a table keeps the rules.
@@ -104,37 +108,57 @@ fn record_ok(t: &[u8], i: usize) -> bool
     )
 }
 
-// Whether each record of a house keeps the rules. Every one is tested: with no early way out the tests run side by side.
-fn each_ok(t: &[u8], house: usize) -> bool
+// 1 where the module of record i is above level 0, else 0.
+fn lit_at(t: &[u8], i: usize) -> usize
+    requires { ⌜ (length (now t) ≡ TABLE-BYTES) × (i < RECORDS) ⌝ }
+    ensures { λ r. ⌜ (r ≡ litOf (recordAt (now (t .entry)) i)) × (r ≤ 1) ⌝ }
+{
+    let r = load(t, i);
+    count_of(r.level == 0)
+}
+
+// Whether each record of a house keeps the rules, and how many of its modules are above level 0.
+struct Judged {
+    ok: bool,
+    lit: usize,
+}
+
+// Judges each record of a house. Every one is tested: with no early way out the tests run side by side.
+fn judge_each(t: &[u8], house: usize) -> Judged
     requires { ⌜ (length (now t) ≡ TABLE-BYTES) × (house < HOUSES) ⌝ }
-    ensures { λ r. ⌜ r ≡ eachOk modules recordOk (house * UNITS) UNITS (now (t .entry)) ⌝ }
+    ensures { λ r. ⌜ (r .ok ≡ eachOk modules recordOk (house * UNITS) UNITS (now (t .entry))) × (r .lit ≡ litIn (now (t .entry)) house) × (r .lit ≤ UNITS) ⌝ }
 {
     let first = house * UNITS;
     let mut ok = true;
+    let mut lit: usize = 0;
     let mut n = 0;
     while n < UNITS {
         ok = ok & record_ok(t, first + n);
+        lit = lit + lit_at(t, first + n);
         n += 1;
     }
-    ok
+    Judged { ok: ok, lit: lit }
 }
 
-// The same, and a house with no module is passed over.
+// Whether each record of a house keeps the rules, and whether its byte says how many modules are lit. The records of a house with no module
+// are passed over.
 fn units_ok(t: &[u8], house: usize) -> bool
     requires { ⌜ (length (now t) ≡ TABLE-BYTES) × (house < HOUSES) ⌝ }
-    ensures { λ r. ⌜ r ≡ eachOk modules recordOk (house * UNITS) UNITS (now (t .entry)) ⌝ }
+    ensures { λ r. ⌜ r ≡ unitsOk (now (t .entry)) house ⌝ }
 {
+    let own = house_at(t, house);
     let from = house * UNITS_BYTES;
     if zeros(&t[from..from + UNITS_BYTES]) {
-        return true;
+        return own.lit == 0;
     }
-    each_ok(t, house)
+    let each = judge_each(t, house);
+    each.ok & (own.lit == each.lit as u8)
 }
 
-// Whether each record of every house does.
-fn records_ok(t: &[u8]) -> bool
+// Whether those of every house do.
+fn all_units_ok(t: &[u8]) -> bool
     requires { ⌜ length (now t) ≡ TABLE-BYTES ⌝ }
-    ensures { λ r. ⌜ r ≡ recordsOk RECORDS (now (t .entry)) ⌝ }
+    ensures { λ r. ⌜ r ≡ allBelow HOUSES (unitsOk (now (t .entry))) ⌝ }
 {
     let mut ok = true;
     let mut house = 0;
@@ -145,24 +169,24 @@ fn records_ok(t: &[u8]) -> bool
     ok
 }
 
-// Whether a house's own bytes keep the rules.
-fn house_ok(t: &[u8], house: usize) -> bool
+// Whether a house's "command heard" byte keeps the rules.
+fn heard_ok(t: &[u8], house: usize) -> bool
     requires { ⌜ (length (now t) ≡ TABLE-BYTES) × (house < HOUSES) ⌝ }
-    ensures { λ r. ⌜ r ≡ houseOk (houseAt (now (t .entry)) house) ⌝ }
+    ensures { λ r. ⌜ r ≡ heardOk (houseAt (now (t .entry)) house .heard) ⌝ }
 {
     let own = house_at(t, house);
-    house_valid(own.heard)
+    heard_valid(own.heard)
 }
 
-// Whether each house's own bytes do.
-fn houses_ok(t: &[u8]) -> bool
+// Whether that of each house does.
+fn all_heard_ok(t: &[u8]) -> bool
     requires { ⌜ length (now t) ≡ TABLE-BYTES ⌝ }
-    ensures { λ r. ⌜ r ≡ housesOk HOUSES (now (t .entry)) ⌝ }
+    ensures { λ r. ⌜ r ≡ allBelow HOUSES (λ h. heardOk (houseAt (now (t .entry)) h .heard)) ⌝ }
 {
     let mut ok = true;
     let mut h = 0;
     while h < HOUSES {
-        ok = ok & house_ok(t, h);
+        ok = ok & heard_ok(t, h);
         h += 1;
     }
     ok
@@ -175,7 +199,7 @@ pub fn valid(t: &[u8]) -> bool
     if t.len() != TABLE_BYTES {
         return false;
     }
-    records_ok(t) & houses_ok(t)
+    all_units_ok(t) & all_heard_ok(t)
 }
 
 // Which records of a house may change: that of one unit, and those whose "addressed" byte is `floor` or more. A unit above 15 is none,
@@ -297,21 +321,32 @@ fn step_at(t: &mut [u8], i: usize, act: Act, own: House, n: u8, o: Reach) -> usi
     }
 }
 
-// Steps the sixteen records of a house, and answers how many levels changed.
-fn step_house(t: &mut [u8], house: usize, act: Act, own: House) -> usize
+// How many levels of a house changed, and how many of its modules are above level 0 after it.
+struct HouseStepped {
+    count: usize,
+    lit: usize,
+}
+
+// Steps the sixteen records of a house.
+fn step_house(t: &mut [u8], house: usize, act: Act, own: House) -> HouseStepped
     requires { ⌜ (length (now t) ≡ TABLE-BYTES) × (house < HOUSES) ⌝ }
     ensures { λ r. ⌜ (now (t .exit) ≡ stepEach modules (stepRecord act own) (house * UNITS) UNITS (now (t .entry)))
-        × (r ≡ changed (now (t .entry)) (now (t .exit))) ⌝ }
+        × (r .count ≡ changed (now (t .entry)) (now (t .exit))) × (r .lit ≡ litIn (now (t .exit)) house) × (r .lit ≤ UNITS) ⌝ }
 {
     let first = house * UNITS;
     let o = reach_of(act, own);
     let mut count: usize = 0;
+    let mut lit: usize = 0;
     let mut n: usize = 0;
     while n < UNITS {
         count = count + step_at(t, first + n, act, own, n as u8, o);
+        lit = lit + lit_at(t, first + n);
         n += 1;
     }
-    count
+    HouseStepped {
+        count: count,
+        lit: lit,
+    }
 }
 
 // Runs an act for a house: its sixteen records, and then its own bytes. Answers how many levels changed.
@@ -320,9 +355,9 @@ fn run_act(t: &mut [u8], house: usize, act: Act) -> usize
     ensures { λ r. ⌜ (now (t .exit) ≡ runAct act house (now (t .entry))) × (r ≡ changed (now (t .entry)) (now (t .exit))) ⌝ }
 {
     let own = house_at(t, house);
-    let count = step_house(t, house, act, own);
-    put_house(t, house, house_after(act, own));
-    count
+    let stepped = step_house(t, house, act, own);
+    put_house(t, house, house_after(act, own, stepped.lit as u8));
+    stepped.count
 }
 
 // Runs an act for a house on the bytes of a module table, and answers how many levels changed. Refused where their length is not a table's,

@@ -10,7 +10,7 @@ use mathlib.Core.Path.{_≡_, refl, sym, ap}
 use mathlib.Core.Bool.{Bool, true, false, not, _&&_, _||_, and-eq-true-iff, or-true, and-true, true≢false}
 use Prim.Native.Nat.{ℕ, zero, suc, _-_, _≤_, _<_, min}
 use native.Mathlib.Omega.{arith}
-use borrow.Author.Tests.{leb-true, eqb-true, le-leb}
+use borrow.Author.Tests.{leb-true, eqb-true, eq-eqb, le-leb}
 use lib.Dec.{eqb, leb}
 use Rattle.ground.specs.Choice.{pick}
 use Rattle.ground.proofs.Choices.{pick-both, both}
@@ -24,8 +24,8 @@ use Rattle.plan.specs.declared.Act.the-variants.{Leave, LeaveHouse, Execute, Gr
 use Rattle.record.specs.declared.Record.{Record}
 use Rattle.record.specs.declared.House.{House}
 use Rattle.record.specs.Layout.{present, lamp, appliance, member, preset, maskOf, withLevel, withAddressed, regroup}
-use Rattle.record.specs.ModuleTable.{levelOk, presetOk, allZeros, recordOk, houseOk, relevel, lit, dimmed, brightened, addressed, obeyed}
-use Rattle.record.specs.ModuleTable.{levelFor, joined, left, acted, stepRecord, houseAfter}
+use Rattle.record.specs.ModuleTable.{levelOk, presetOk, allZeros, recordOk, heardOk, relevel, litLevel, dimmed, brightened, addressed, obeyed}
+use Rattle.record.specs.ModuleTable.{levelFor, joined, left, acted, stepRecord, heardAfter}
 use Rattle.record.specs.Parts.{keepsGroups, groupsOf, GroupsKept, RestKept}
 use Rattle.record.specs.Statements.{RecordStaysValid, HouseStaysValid, AbsentStays}
 
@@ -103,7 +103,7 @@ dark-ok r = go (appliance r)
     go true = refl
     go false = refl
 
-pub lit-ok : (r : Record) (l : ℕ) → levelOk (r .kind) l ≡ true → levelOk (r .kind) (lit l) ≡ true
+pub lit-ok : (r : Record) (l : ℕ) → levelOk (r .kind) l ≡ true → levelOk (r .kind) (litLevel l) ≡ true
 lit-ok r l e = pick-both (λ x. levelOk (r .kind) x ≡ true) (eqb l 0) 63 l (full-ok r) e
 
 -- a lamp can have any level up to 63
@@ -116,7 +116,7 @@ at-most r x e = leb-true x 63 (and-eq-true-iff (leb x 63) (not (appliance r) || 
 
 pub dimmed-ok : (r : Record) → lamp r ≡ true → levelOk (r .kind) (r .level) ≡ true → levelOk (r .kind) (dimmed (r .level)) ≡ true
 dimmed-ok r e h =
-    let low : lit (r .level) ≤ 63 = at-most r (lit (r .level)) (lit-ok r (r .level) h) in
+    let low : litLevel (r .level) ≤ 63 = at-most r (litLevel (r .level)) (lit-ok r (r .level) h) in
     lamp-ok r (dimmed (r .level)) e (omega arith)
 
 pub brightened-ok : (r : Record) → lamp r ≡ true → levelOk (r .kind) (brightened (r .level)) ≡ true
@@ -219,7 +219,7 @@ module _ (r : Record) (g : Good r) (here : present r ≡ true) where
   -- ---- the acts
 
   pub obeyed-good : (f : Function) → Good (obeyed f r)
-  obeyed-good On = relevel-good r g here (addressed r) (lit (r .level)) (λ e. lit-ok r (r .level) (g .level))
+  obeyed-good On = relevel-good r g here (addressed r) (litLevel (r .level)) (λ e. lit-ok r (r .level) (g .level))
   obeyed-good Off = relevel-good r g here (addressed r) 0 (λ e. dark-ok r)
   obeyed-good Dim =
       relevel-good r g here (addressed r && lamp r) (dimmed (r .level))
@@ -333,18 +333,23 @@ addressed-kept a own n r e = sym (ap (λ (s : Record). s .addressed) (rest-kept 
 
 -- ---- a house's own bytes
 
+heard-stays : (a : Act) (x : ℕ) → heardOk x ≡ true → heardOk (heardAfter a x) ≡ true
+heard-stays Nothing x e = e
+heard-stays (Address u) x e = refl
+heard-stays (Obey f) x e = refl
+heard-stays (Join u g) x e = e
+heard-stays (Level u b) x e = e
+heard-stays (JoinAt u g b) x e = e
+heard-stays UnitsOn x e = e
+heard-stays UnitsOff x e = e
+heard-stays (Leave u gs) x e = e
+heard-stays (LeaveHouse gs) x e = e
+heard-stays (Execute g) x e = e
+heard-stays (GroupOff g) x e = e
+heard-stays (GroupDim g) x e = e
+heard-stays (GroupBright g) x e = e
+
 pub house-stays-valid : HouseStaysValid
-house-stays-valid Nothing own e = e
-house-stays-valid (Address u) own e = refl
-house-stays-valid (Obey f) own e = refl
-house-stays-valid (Join u g) own e = e
-house-stays-valid (Level u b) own e = e
-house-stays-valid (JoinAt u g b) own e = e
-house-stays-valid UnitsOn own e = e
-house-stays-valid UnitsOff own e = e
-house-stays-valid (Leave u gs) own e = e
-house-stays-valid (LeaveHouse gs) own e = e
-house-stays-valid (Execute g) own e = e
-house-stays-valid (GroupOff g) own e = e
-house-stays-valid (GroupDim g) own e = e
-house-stays-valid (GroupBright g) own e = e
+house-stays-valid a own before above e =
+    let heard = and-eq-true-iff (heardOk (own .heard)) (eqb (own .lit) before) .0 e .0 in
+    and-eq-true-iff (heardOk (heardAfter a (own .heard))) (eqb above above) .1 (heard-stays a (own .heard) heard, eq-eqb above above refl)

@@ -1,5 +1,6 @@
 -- Where the bytes of a table lie, and a record with some of its fields changed. No rule of 01 but the sizes and the order of the
--- bytes stands here: "2,064 lent bytes: 256 records of 8 in order A1..P16, then one "command heard" byte per house."
+-- bytes stands here: "256 records of 8 in order A1..P16, then one "command heard" byte per house", and 02, A3: "one byte per house at the
+-- table's end .., so the table has 2,080 bytes".
 use Prim.Native.Nat.{ℕ, _+_, _*_}
 use mathlib.Core.Bool.{Bool, not}
 use mathlib.Core.List.{List, [], _∷_}
@@ -26,8 +27,11 @@ RECORDS = HOUSES * UNITS
 abbrev pub HEARD-AT : ℕ
 HEARD-AT = RECORDS * RECORD-BYTES
 
+abbrev pub LIT-AT : ℕ
+LIT-AT = HEARD-AT + HOUSES
+
 abbrev pub HOUSE-BYTES : ℕ
-HOUSE-BYTES = 1
+HOUSE-BYTES = 2
 
 abbrev pub TABLE-BYTES : ℕ
 TABLE-BYTES = HEARD-AT + HOUSES * HOUSE-BYTES
@@ -56,12 +60,16 @@ modules = record { size = RECORD-BYTES; at = recordAt; bytes = recordBytes }
 abbrev pub put : List ℕ → ℕ → Record → List ℕ
 put t i r = putAt modules t i r
 
--- "one "command heard" byte per house": the bytes of house h beside its records', and such bytes put there
+-- the byte of house h that says how many of its modules are lit
+abbrev pub litByte : List ℕ → ℕ → ℕ
+litByte t h = getD t (LIT-AT + h) 0
+
+-- the bytes of house h beside its records', and such bytes put there: the "command heard" bytes of all houses come before the lit bytes
 unfoldable pub houseAt : List ℕ → ℕ → House
-houseAt t h = record { heard = getD t (HEARD-AT + h) 0 }
+houseAt t h = record { heard = getD t (HEARD-AT + h) 0; lit = litByte t h }
 
 unfoldable pub putHouse : List ℕ → ℕ → House → List ℕ
-putHouse t h own = set t (HEARD-AT + h) (own .heard)
+putHouse t h own = set (set t (HEARD-AT + h) (own .heard)) (LIT-AT + h) (own .lit)
 
 -- "kind (0 none, 1 lamp, 2 appliance)"
 abbrev pub present : Record → Bool

@@ -7,7 +7,7 @@ use mathlib.Core.List.{List}
 use lib.Dec.{eqb, leb}
 use lib.ListN.{length}
 use Rattle.ground.specs.Choice.{pick}
-use Rattle.ground.specs.Records.{stepEach, allBelow, differing, valueAt}
+use Rattle.ground.specs.Records.{stepEach, allBelow, sumBelow, differing, valueAt}
 use Rattle.message.specs.declared.Function.{Function}
 use Rattle.message.specs.declared.Function.the-variants.{AllUnitsOff, AllLightsOn, On, Off, Dim, Bright, AllLightsOff}
 use Rattle.message.specs.declared.Function.the-variants.{HailRequest, HailAcknowledge, StatusOn, StatusOff, StatusRequest}
@@ -45,15 +45,35 @@ recordOk r =
     && (present r || allZeros r)
 
 -- "House bytes are 0 or 1."
-abbrev pub houseOk : House → Bool
-houseOk own = leb (own .heard) 1
+abbrev pub heardOk : ℕ → Bool
+heardOk x = leb x 1
+
+-- 02, A3: "the number of its modules above level 0": 1 for a record above it, be it a lamp or an appliance; in a valid table a place with no
+-- module is at 0
+abbrev pub litOf : Record → ℕ
+litOf r = pick (eqb (r .level) 0) 0 1
+
+-- of house h, those of its first n units, and all
+abbrev pub litTo : List ℕ → ℕ → ℕ → ℕ
+litTo t h n = sumBelow n (λ k. litOf (recordAt t (h * UNITS + k)))
+
+abbrev pub litIn : List ℕ → ℕ → ℕ
+litIn t h = litTo t h UNITS
+
+-- "A stored byte that disagrees breaks the table's rules."
+abbrev pub litOk : ℕ → ℕ → Bool
+litOk above x = eqb x above
+
+-- a house's own bytes, where so many of its modules are above level 0
+abbrev pub houseOk : ℕ → House → Bool
+houseOk above own = heardOk (own .heard) && litOk above (own .lit)
 
 -- each record keeps the rules, and so do each house's own bytes
 abbrev pub recordsOk : ℕ → List ℕ → Bool
 recordsOk n t = allBelow n (λ i. recordOk (recordAt t i))
 
 abbrev pub housesOk : ℕ → List ℕ → Bool
-housesOk n t = allBelow n (λ h. houseOk (houseAt t h))
+housesOk n t = allBelow n (λ h. houseOk (litIn t h) (houseAt t h))
 
 unfoldable pub tableOk : List ℕ → Bool
 tableOk t = eqb (length t) TABLE-BYTES && recordsOk RECORDS t && housesOk HOUSES t
@@ -65,22 +85,22 @@ abbrev pub relevel : Bool → ℕ → Record → Record
 relevel b x r = withLevel (pick b x (r .level)) r
 
 -- "on sets .. at 0 to 63 and leaves a lit one"; "a lamp at 0 being first put to 63"
-abbrev pub lit : ℕ → ℕ
-lit l = pick (eqb l 0) 63 l
+abbrev pub litLevel : ℕ → ℕ
+litLevel l = pick (eqb l 0) 63 l
 
 -- "dim and bright move .. by 3, to no less than 1 and no more than 63"
 abbrev pub dimmed : ℕ → ℕ
-dimmed l = max 1 (lit l - 3)
+dimmed l = max 1 (litLevel l - 3)
 
 abbrev pub brightened : ℕ → ℕ
-brightened l = min 63 (lit l + 3)
+brightened l = min 63 (litLevel l + 3)
 
 abbrev pub addressed : Record → Bool
 addressed r = eqb (r .addressed) 1
 
 -- the functions
 abbrev pub obeyed : Function → Record → Record
-obeyed On r = relevel (addressed r) (lit (r .level)) r
+obeyed On r = relevel (addressed r) (litLevel (r .level)) r
 obeyed Off r = relevel (addressed r) 0 r
 obeyed Dim r = relevel (addressed r && lamp r) (dimmed (r .level)) r
 obeyed Bright r = relevel (addressed r && lamp r) (brightened (r .level)) r
@@ -146,8 +166,9 @@ heardAfter (GroupOff g) x = x
 heardAfter (GroupDim g) x = x
 heardAfter (GroupBright g) x = x
 
-abbrev pub houseAfter : Act → House → House
-houseAfter a own = record { heard = heardAfter a (own .heard) }
+-- "the number of its modules above level 0, true after every operation": the number that the act leaves above it
+abbrev pub houseAfter : Act → ℕ → House → House
+houseAfter a above own = record { heard = heardAfter a (own .heard); lit = above }
 
 -- ---- What it does to the table
 
@@ -155,7 +176,8 @@ houseAfter a own = record { heard = heardAfter a (own .heard) }
 unfoldable pub runAct : Act → ℕ → List ℕ → List ℕ
 runAct a h t =
     let own = houseAt t h in
-    putHouse (stepEach modules (stepRecord a own) (h * UNITS) UNITS t) h (houseAfter a own)
+    let after = stepEach modules (stepRecord a own) (h * UNITS) UNITS t in
+    putHouse after h (houseAfter a (litIn after h) own)
 
 -- "The result counts the records whose level differs before and after."
 abbrev pub levelOf : Record → ℕ

@@ -12,9 +12,9 @@ use Rattle.record.specs.ModuleTable.{recordOk, houseOk, stepRecord, hous
 abbrev pub RecordStaysValid : Type 0
 RecordStaysValid = (a : Act) (own : House) (n : ℕ) (r : Record) → recordOk r ≡ true → recordOk (stepRecord a own n r) ≡ true
 
--- so do a house's own bytes
+-- so do a house's own bytes, whatever number of its modules the act leaves above level 0
 abbrev pub HouseStaysValid : Type 0
-HouseStaysValid = (a : Act) (own : House) → houseOk own ≡ true → houseOk (houseAfter a own) ≡ true
+HouseStaysValid = (a : Act) (own : House) (before above : ℕ) → houseOk before own ≡ true → houseOk above (houseAfter a above own) ≡ true
 
 -- "An absent unit .. changes nothing"
 abbrev pub AbsentStays : Type 0

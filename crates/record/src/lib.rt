@@ -4,7 +4,7 @@ use plan::bit_of;
 ghost use mathlib.Core.Path.{_≡_};
 ghost use Rattle.ground.specs.Choice.{pick};
 ghost use Rattle.record.specs.Layout.{preset};
-ghost use Rattle.record.specs.ModuleTable.{levelOk, presetOk, recordOk, houseOk};
+ghost use Rattle.record.specs.ModuleTable.{levelOk, presetOk, recordOk, heardOk};
 
 pub mod step;
 
@@ -23,8 +23,11 @@ pub const RECORDS: usize = HOUSES * UNITS;
 // Where the "command heard" bytes begin.
 pub const HEARD_AT: usize = RECORDS * RECORD_BYTES;
 
+// Where the bytes begin that say how many modules of a house are lit.
+pub const LIT_AT: usize = HEARD_AT + HOUSES;
+
 // The bytes of a house beside its records'.
-pub const HOUSE_BYTES: usize = 1;
+pub const HOUSE_BYTES: usize = 2;
 
 // The bytes of a table.
 pub const TABLE_BYTES: usize = HEARD_AT + HOUSES * HOUSE_BYTES;
@@ -41,9 +44,11 @@ pub struct Record {
     pub preset3: u8,
 }
 
-// The bytes of a house beside its records': 1 where it has heard a command since an address, else 0.
+// The bytes of a house beside its records': 1 where it has heard a command since an address, else 0; and how many of its modules are
+// above level 0.
 pub struct House {
     pub heard: u8,
+    pub lit: u8,
 }
 
 // One of two numbers, by a test.
@@ -118,9 +123,9 @@ pub fn valid(
         & (!(kind == 0) | zeros)
 }
 
-// Whether a house of these bytes keeps the rules.
-pub fn house_valid(heard: u8) -> bool
-    ensures { λ b. ⌜ b ≡ houseOk (record { heard = heard }) ⌝ }
+// Whether a "command heard" byte keeps the rules.
+pub fn heard_valid(heard: u8) -> bool
+    ensures { λ b. ⌜ b ≡ heardOk heard ⌝ }
 {
     heard <= 1
 }

@@ -13,12 +13,12 @@ ghost use Prim.Native.Nat.{_≤_, min};
 ghost use Rattle.ground.specs.Choice.{pick};
 ghost use Rattle.record.specs.declared.House.{House};
 ghost use Rattle.record.specs.Layout.{maskOf};
-ghost use Rattle.record.specs.ModuleTable.{lit, dimmed, brightened, obeyed, levelFor, joined, left, acted, stepRecord, heardAfter, houseAfter};
+ghost use Rattle.record.specs.ModuleTable.{litLevel, dimmed, brightened, obeyed, levelFor, joined, left, acted, stepRecord, heardAfter, houseAfter};
 ghost use Rattle.record.specs.Parts.{keepsGroups, groupsOf};
 
 // A dark level as 63, and a lit one as it is.
 fn lit_level(l: u8) -> u8
-    ensures { λ x. ⌜ x ≡ lit l ⌝ }
+    ensures { λ x. ⌜ x ≡ litLevel l ⌝ }
 {
     choose(l == 0, 63, l)
 }
@@ -318,11 +318,12 @@ fn heard_after(act: Act, x: u8) -> u8
     }
 }
 
-// A house's own bytes after an act.
-pub fn house_after(act: Act, house: House) -> House
-    ensures { λ s. ⌜ s ≡ houseAfter act house ⌝ }
+// A house's own bytes after an act that leaves so many of its modules above level 0.
+pub fn house_after(act: Act, house: House, above: u8) -> House
+    ensures { λ s. ⌜ s ≡ houseAfter act above house ⌝ }
 {
     House {
         heard: heard_after(act, house.heard),
+        lit: above,
     }
 }

@@ -14,7 +14,7 @@ use lib.Dec.{eqb}
 use lib.ListN.{length, getD, set}
 use lib.Seq.{getD-set-same, getD-set-other}
 use Rattle.ground.specs.Choice.{pick}
-use Rattle.ground.specs.Records.{differing, valueAt}
+use Rattle.ground.specs.Records.{sumBelow, differing, valueAt}
 use Rattle.ground.proofs.Records.{ends-before, differing-as}
 use Rattle.record.specs.Layout.{RECORDS, RECORD-BYTES, recordAt, modules}
 use Rattle.record.specs.ModuleTable.{levelOf, changed}
@@ -42,7 +42,7 @@ module _ (size : ℕ) where
   pub changed-next : (before t kept : List ℕ) (i count more : ℕ) → SecondBytesOf RECORDS before kept → i < RECORDS
       → count ≡ differing (secondByte size) i before t → more ≡ pick (eqb (getD kept i 0) (getD t (i * size + 1) 0)) 0 1
       → count + more ≡ differing (secondByte size) (i + 1) before t
-  unfolding differing
+  unfolding sumBelow
   changed-next before t kept i count more old h e d =
       rw (add-one i) (ap₂ (λ (a b : ℕ). a + b) e (d ∙ ap (λ (x : ℕ). pick (eqb x (getD t (i * size + 1) 0)) 0 1) (old i h)))
 

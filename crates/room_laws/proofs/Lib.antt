@@ -5,3 +5,4 @@ pub mod Bursts
 pub mod Press
 pub mod Slices
 pub mod Limits
+pub mod LitLaws

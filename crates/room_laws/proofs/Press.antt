@@ -1,5 +1,6 @@
 -- A press: one radio command and its two bursts; the unit that is addressed is lit by On and darkened by Off, and one that is let go is not.
 --
+--     done              a message carried out in a valid room
 --     press, recall     the theorems of specs/Press.antt
 use mathlib.Core.Path.{_≡_, refl, ap, _∙_}
 use mathlib.Core.Bool.{Bool, true, false, not, _&&_}
@@ -70,7 +71,7 @@ stays-as-it-is x y e = rw e (go (eqb x 0))
 -- ---- in the room
 
 -- a message of the house, carried out in a valid room
-done : (m : Message) (room : Room) → roomOk room ≡ true → messageOk m ≡ true → carried m ≡ true → fits (planOf m) ≡ true → ByPlan m room
+pub done : (m : Message) (room : Room) → roomOk room ≡ true → messageOk m ≡ true → carried m ≡ true → fits (planOf m) ≡ true → ByPlan m room
 unfolding applyAnswer judged
 done m room ok good runs fit =
     let v = valid-parts room ok in

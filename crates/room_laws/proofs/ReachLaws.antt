@@ -15,14 +15,14 @@ use Rattle.plan.specs.declared.Act.the-variants.{GroupDim, GroupBright}
 use Rattle.record.specs.declared.Record.{Record}
 use Rattle.record.specs.declared.House.{House}
 use Rattle.record.specs.Layout.{present, lamp, member, preset, withAddressed}
-use Rattle.record.specs.ModuleTable.{lit, dimmed, brightened, addressed, obeyed, levelFor, joined, left, acted, stepRecord}
+use Rattle.record.specs.ModuleTable.{litLevel, dimmed, brightened, addressed, obeyed, levelFor, joined, left, acted, stepRecord}
 use Rattle.module_table.proofs.StillLaws.{unlevelled, unchosen}
 use Rattle.room_laws.specs.Statements.{hears, actReaches}
 
 -- ---- a record that an act does not reach
 
 unheard : (f : Function) (r : Record) → hears f r ≡ false → obeyed f r ≡ r
-unheard On r e = unlevelled (addressed r) (lit (r .level)) r e
+unheard On r e = unlevelled (addressed r) (litLevel (r .level)) r e
 unheard Off r e = unlevelled (addressed r) 0 r e
 unheard Dim r e = unlevelled (addressed r && lamp r) (dimmed (r .level)) r e
 unheard Bright r e = unlevelled (addressed r && lamp r) (brightened (r .level)) r e

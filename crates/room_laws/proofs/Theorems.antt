@@ -22,8 +22,8 @@ use Rattle.plan.specs.declared.Plan.the-variants.{Run, Move, Refused}
 use Rattle.plan.proofs.PlanLaws.{only-type-zero}
 use Rattle.record.specs.declared.Record.{Record}
 use Rattle.record.specs.declared.House.{House}
-use Rattle.record.specs.Layout.{RECORD-BYTES, UNITS, RECORDS, HEARD-AT, recordAt, recordBytes, houseAt, present}
-use Rattle.record.specs.ModuleTable.{joined, left, acted, stepRecord, houseAfter, runAct}
+use Rattle.record.specs.Layout.{RECORD-BYTES, UNITS, HOUSES, RECORDS, HEARD-AT, LIT-AT, recordAt, recordBytes, houseAt, present}
+use Rattle.record.specs.ModuleTable.{joined, left, acted, stepRecord, heardAfter, runAct}
 use Rattle.module_table.proofs.TableLaws.{byte-of-record, changed-none}
 use Rattle.module_table.proofs.HouseLaws.{run-length, run-record, run-byte, run-house, run-house-other}
 use Rattle.module_table.proofs.Runs.{changed-at-most, run-changed}
@@ -100,8 +100,12 @@ own-house-only m room = go (outcome m room)
         record {
           modules-long = rw (r .left) (run-length a h t);
           modules = λ k out.
-              let apart = neither (eqb (k / (UNITS * RECORD-BYTES)) h) (eqb k (HEARD-AT + h)) out in
-              rw (r .left) (run-byte a h t k (eqb-false (k / (UNITS * RECORD-BYTES)) h (apart .0)) (eqb-false k (HEARD-AT + h) (apart .1)));
+              let records = eqb (k / (UNITS * RECORD-BYTES)) h in
+              let apart = neither (records || eqb k (HEARD-AT + h)) (eqb k (LIT-AT + h)) out in
+              let behind = neither records (eqb k (HEARD-AT + h)) (apart .0) in
+              rw (r .left)
+              (run-byte a h t k (eqb-false (k / (UNITS * RECORD-BYTES)) h (behind .0)) (eqb-false k (HEARD-AT + h) (behind .1))
+              (eqb-false k (LIT-AT + h) (apart .1)));
           shutters-long = rw (r .left);
           shutters = λ one k out. rw (r .left);
         }
@@ -195,13 +199,13 @@ count-at-most-16 m room = go (outcome m room)
 
 -- ---- extended commands
 
--- the act of a plan leaves each mark of being addressed, and the house's own bytes
+-- the act of a plan leaves each mark of being addressed, and the house's "command heard" byte
 abbrev Keeps : Plan → Type 0
-Keeps (Run a) = ((own : House) (n : ℕ) (r : Record) → stepRecord a own n r .addressed ≡ r .addressed) × ((own : House) → houseAfter a own ≡ own)
+Keeps (Run a) = ((own : House) (n : ℕ) (r : Record) → stepRecord a own n r .addressed ≡ r .addressed) × ((x : ℕ) → heardAfter a x ≡ x)
 Keeps (Move a) = Unit {0}
 Keeps (Refused why) = Unit {0}
 
-keeps-act : (a : Act) → ((own : House) (n : ℕ) (r : Record) → acted a own n r .addressed ≡ r .addressed) → ((own : House) → houseAfter a own ≡ own)
+keeps-act : (a : Act) → ((own : House) (n : ℕ) (r : Record) → acted a own n r .addressed ≡ r .addressed) → ((x : ℕ) → heardAfter a x ≡ x)
     → Keeps (Run a)
 unfolding stepRecord
 keeps-act a marks house = (λ own n r. pick-both (λ s. s .addressed ≡ r .addressed) (present r) (acted a own n r) r (marks own n r) refl, house)
@@ -271,9 +275,9 @@ extended-keeps h u d c room = go (outcome m room)
 
     go : Outcome m room
         → ((i : ℕ) → i < RECORDS → recordAt (roomAfter m room .modules) i .addressed ≡ recordAt (room .modules) i .addressed)
-        × ((g : ℕ) → houseAt (roomAfter m room .modules) g .heard ≡ houseAt (room .modules) g .heard)
-    go (stays why e same) = (λ i below. rw same, λ g. rw same)
-    go (moved a r) = (λ i below. rw (r .left), λ g. rw (r .left))
+        × ((g : ℕ) → g < HOUSES → houseAt (roomAfter m room .modules) g .heard ≡ houseAt (room .modules) g .heard)
+    go (stays why e same) = (λ i below. rw same, λ g there. rw same)
+    go (moved a r) = (λ i below. rw (r .left), λ g there. rw (r .left))
     go (did a r) =
         let t = room .modules in
         let keeps : Keeps (Run a) = subst Keeps (r .plan) (keeps-plan u d c) in (
@@ -282,12 +286,14 @@ extended-keeps h u d c room = go (outcome m room)
               let kept = keeps .0 (houseAt t h) (i % UNITS) (recordAt t i) in
               rw (r .left, run-record a h t i below (modules-size room (r .ok)))
               (pick-both (λ (x : Record). x .addressed ≡ mark) (eqb (i / UNITS) h) _ _ kept refl),
-          λ g. rw (r .left) (heard g (ℕ-discrete g h) a r (keeps .1)),
+          λ g there. rw (r .left) (heard g there (ℕ-discrete g h) a r (keeps .1)),
         )
       where
-        heard : (g : ℕ) → Dec (g ≡ h) → (a : Act) → Ran m room (Run a) → ((own : House) → houseAfter a own ≡ own)
+        heard : (g : ℕ) → g < HOUSES → Dec (g ≡ h) → (a : Act) → Ran m room (Run a) → ((x : ℕ) → heardAfter a x ≡ x)
             → houseAt (runAct a h (room .modules)) g .heard ≡ houseAt (room .modules) g .heard
-        heard g (yes own) a r keeps =
+        heard g there (yes own) a r keeps =
             let t = room .modules in
-            rw own (ap (λ (x : House). x .heard) (run-house a h t (house-below m (r .message)) (modules-size room (r .ok)) ∙ keeps (houseAt t h)))
-        heard g (no other) a r keeps = ap (λ (x : House). x .heard) (run-house-other a h (room .modules) (house-below m (r .message)) g other)
+            rw own
+            (ap (λ (x : House). x .heard) (run-house a h t (house-below m (r .message)) (modules-size room (r .ok))) ∙ keeps (houseAt t h .heard))
+        heard g there (no other) a r keeps =
+            ap (λ (x : House). x .heard) (run-house-other a h (room .modules) (house-below m (r .message)) g there other)

@@ -19,8 +19,8 @@ use Rattle.plan.specs.declared.Plan.{Plan}
 use Rattle.plan.specs.declared.Plan.the-variants.{Run, Move, Refused}
 use Rattle.record.specs.declared.Record.{Record}
 use Rattle.record.specs.declared.House.{House}
-use Rattle.record.specs.Layout.{RECORD-BYTES, UNITS, RECORDS, HEARD-AT, recordAt, houseAt, present, lamp, member}
-use Rattle.record.specs.ModuleTable.{addressed, stepRecord, houseAfter}
+use Rattle.record.specs.Layout.{RECORD-BYTES, UNITS, HOUSES, RECORDS, HEARD-AT, LIT-AT, recordAt, houseAt, present, lamp, member}
+use Rattle.record.specs.ModuleTable.{litIn, addressed, stepRecord, houseAfter}
 use Rattle.shutter.specs.declared.Shutter.{Shutter}
 use Rattle.shutter.specs.Shutters.{protected}
 use Rattle.shutter_table.specs.ShutterTable.{SHUTTERS, shutterAt, shutterAfter}
@@ -32,7 +32,7 @@ use Rattle.room.specs.Routes.{roomAfterAll}
 
 -- the bytes of a house: those of its sixteen records, and its own
 abbrev pub ownByte : ℕ → ℕ → Bool
-ownByte h k = eqb (k / (UNITS * RECORD-BYTES)) h || eqb k (HEARD-AT + h)
+ownByte h k = eqb (k / (UNITS * RECORD-BYTES)) h || eqb k (HEARD-AT + h) || eqb k (LIT-AT + h)
 
 -- the modules that a function reaches
 abbrev pub hears : Function → Record → Bool
@@ -78,16 +78,16 @@ concerns m room i =
     eqb (i / UNITS) (houseOf m)
     && planConcerns (planOf m) (houseAt (room .modules) (houseOf m)) (i % UNITS) (recordAt (room .modules) i)
 
--- what a plan makes of the record of unit n, and of the house's own bytes
+-- what a plan makes of the record of unit n, and of the house's own bytes, where so many of its modules are above level 0 after it
 abbrev pub planned : Plan → House → ℕ → Record → Record
 planned (Run a) own n r = stepRecord a own n r
 planned (Move a) own n r = r
 planned (Refused why) own n r = r
 
-abbrev pub plannedHouse : Plan → House → House
-plannedHouse (Run a) own = houseAfter a own
-plannedHouse (Move a) own = own
-plannedHouse (Refused why) own = own
+abbrev pub plannedHouse : Plan → ℕ → House → House
+plannedHouse (Run a) above own = houseAfter a above own
+plannedHouse (Move a) above own = own
+plannedHouse (Refused why) above own = own
 
 -- what a plan for house h makes of shutter i
 abbrev pub plannedShutter : Plan → ℕ → ℕ → Shutter → Shutter
@@ -133,7 +133,8 @@ pub record ByPlan (m : Message) (room : Room) : Type 0 where
   pub records : (n : ℕ) → n < UNITS
       → recordAt (roomAfter m room .modules) (houseOf m * UNITS + n)
       ≡ planned (planOf m) (houseAt (room .modules) (houseOf m)) n (recordAt (room .modules) (houseOf m * UNITS + n))
-  pub house : houseAt (roomAfter m room .modules) (houseOf m) ≡ plannedHouse (planOf m) (houseAt (room .modules) (houseOf m))
+  pub house : let after = roomAfter m room .modules in let h = houseOf m in
+      houseAt after h ≡ plannedHouse (planOf m) (litIn after h) (houseAt (room .modules) h)
   pub shutters : (i : ℕ) → i < SHUTTERS
       → shutterAt (roomAfter m room .shutters) i ≡ plannedShutter (planOf m) (houseOf m) i (shutterAt (room .shutters) i)
 
@@ -164,9 +165,9 @@ ProtectedLimit =
     (ms : List Message) (room : Room) → roomOk room ≡ true → (i : ℕ) → i < SHUTTERS
     → let s = shutterAt (roomAfterAll ms room .shutters) i in protected s ≡ true → s .opening ≤ s .limit
 
--- extended commands "never touch addressing or house bytes"
+-- extended commands "never touch addressing or house bytes": the "command heard" bytes of 01
 abbrev pub ExtendedKeeps : Type 0
 ExtendedKeeps =
     (h u d c : ℕ) (room : Room) → let after = roomAfter (Extended h u d c) room .modules in
     ((i : ℕ) → i < RECORDS → recordAt after i .addressed ≡ recordAt (room .modules) i .addressed)
-    × ((g : ℕ) → houseAt after g .heard ≡ houseAt (room .modules) g .heard)
+    × ((g : ℕ) → g < HOUSES → houseAt after g .heard ≡ houseAt (room .modules) g .heard)

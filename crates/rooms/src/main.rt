@@ -2,11 +2,13 @@
 // worked out from the papers by hand.
 use line::listen;
 use line::wall_on;
+use lit::lit;
 use message::Function;
 use message::Message;
 use room::apply;
 use show::print;
 use tables::address;
+use tables::counted;
 use tables::damaged;
 use tables::extended;
 use tables::function;
@@ -135,15 +137,47 @@ fn heard_only() {
     extended(t, 0, 0x35, 0x11);
 }
 
+// Asks how many modules of a house are lit, and prints the answer. The house is a number, 16 too.
+fn ask(t: &[u8], house: u8) {
+    show::field(b"lit in house ", house);
+    print(b": ");
+    show::lit_answer(lit(t, house));
+    print(b"\n");
+}
+
+// What is asked of tables as messages leave them, of one that is short, of a house above 15, and of bytes that disagree with the records.
+fn how_many_lit() {
+    print(b"How many are lit\n");
+    let t = extended(new_room(), 0, 0x33, 0x00);
+    let t = function(t, Function::AllLightsOff);
+    let t = function(t, Function::AllUnitsOff);
+    let table = t.table;
+    ask(&table, 0);
+    ask(&table, 1);
+    ask(&table, 16);
+    let short = [0u8; 2064];
+    ask(&short, 16);
+    let five = function(counted(t, 5), Function::On);
+    let table = five.table;
+    ask(&table, 0);
+    let sixteen = counted(t, 16);
+    let table = sixteen.table;
+    ask(&table, 0);
+    let seventeen = counted(t, 17);
+    let table = seventeen.table;
+    ask(&table, 0);
+    ask(&table, 1);
+}
+
 // A short table, a house or a unit above 15, a lamp at 64, a command that is not carried: the first that applies.
 fn refusals() {
     print(b"Refused\n");
     let far = Message::Address { house: 16, unit: 0 };
-    let mut short = [0u8; 2063];
+    let mut short = [0u8; 2079];
     let room = new_room();
     let mut none = room.shutters;
     let a = apply(&mut short, &mut none, far);
-    print(b"2063 bytes, ");
+    print(b"2079 bytes, ");
     show::applied(far, a);
     let t = send(room, far);
     let t = extended(t, 16, 0x33, 0x00);
@@ -161,6 +195,7 @@ fn main() {
     absent_units();
     appliance();
     heard_only();
+    how_many_lit();
     refusals();
     shutters::scenes();
 }

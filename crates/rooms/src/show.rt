@@ -1,13 +1,17 @@
 // Lines for a reader: a message with what applying it answered, and what it changed in the two tables.
 use crate::line::ANSWERS;
+use ground::CountAnswer;
 use ground::refusal_number;
 use libc::STDOUT_FILENO;
+use lit::lit;
 use message::Message;
 use record::HEARD_AT;
 use record::HOUSES;
+use record::LIT_AT;
 use record::RECORD_BYTES;
 use record::RECORDS;
 use record::TABLE_BYTES;
+use record::UNITS;
 use room::Changes;
 use room::RoomAnswer;
 use shutter_table::SHUTTER_BYTES;
@@ -64,6 +68,17 @@ fn answer(a: RoomAnswer) {
             print(b"refused ");
             number(refusal_number(why) as u64);
             print(b"\n");
+        }
+    }
+}
+
+// What is answered to the question how many modules are lit.
+pub(crate) fn lit_answer(a: CountAnswer) {
+    match a {
+        CountAnswer::Done(n) => number(n as u64),
+        CountAnswer::Refused(why) => {
+            print(b"refused ");
+            number(refusal_number(why) as u64);
         }
     }
 }
@@ -167,16 +182,47 @@ fn changed_records(before: &[u8; TABLE_BYTES], after: &[u8; TABLE_BYTES]) {
     }
 }
 
-// The "command heard" bytes that differ, as they are after.
+// Whether a record of house h differs between two tables.
+fn records_differ(before: &[u8; TABLE_BYTES], after: &[u8; TABLE_BYTES], h: usize) -> bool
+    requires { ⌜ h < 16 ⌝ }
+{
+    let mut other = false;
+    let mut n: usize = 0;
+    while n < UNITS {
+        other = other | differs(before, after, h * UNITS + n);
+        n += 1;
+    }
+    other
+}
+
+// How many modules of house h are lit, if the house has changed, as it is after.
+fn lit_change(before: &[u8; TABLE_BYTES], after: &[u8; TABLE_BYTES], h: usize)
+    requires { ⌜ h < 16 ⌝ }
+{
+    if records_differ(before, after, h)
+        | (before[HEARD_AT + h] != after[HEARD_AT + h])
+        | (before[LIT_AT + h] != after[LIT_AT + h])
+    {
+        print(b"  ");
+        let house = [letter(h as u8)];
+        print(&house);
+        print(b" lit ");
+        lit_answer(lit(after, h as u8));
+        print(b"\n");
+    }
+}
+
+// The house bytes that differ, as they are after, and how many modules are lit in each house that has changed.
 fn changed_houses(before: &[u8; TABLE_BYTES], after: &[u8; TABLE_BYTES]) {
     let mut h: usize = 0;
     while h < HOUSES {
         house_change(before, after, h);
+        lit_change(before, after, h);
         h += 1;
     }
 }
 
-// What differs in a module table: records, then house bytes.
+// What differs in a module table: records, then houses.
 pub(crate) fn changed_modules(before: &[u8; TABLE_BYTES], after: &[u8; TABLE_BYTES]) {
     changed_records(before, after);
     changed_houses(before, after);

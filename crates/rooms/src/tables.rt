@@ -1,10 +1,11 @@
 // A room's two tables, and messages applied to them. A message is printed with what came of it, and under it each record, house byte and
-// shutter that it changed, as they are then.
+// shutter that it changed, as they are then, and how many modules are lit in each house that it changed.
 use crate::show;
 use message::Function;
 use message::Message;
 use radio::RadioBytes;
 use radio::RadioCommand;
+use record::LIT_AT;
 use record::RECORD_BYTES;
 use record::TABLE_BYTES;
 use room::apply;
@@ -26,6 +27,13 @@ fn with(table: [u8; TABLE_BYTES], place: u8, kind: u8, level: u8) -> [u8; TABLE_
     t
 }
 
+// The table with another number as that of the modules lit in a house, 0 to 15.
+fn with_lit(table: [u8; TABLE_BYTES], house: u8, lit: u8) -> [u8; TABLE_BYTES] {
+    let mut t = table;
+    t[LIT_AT + (house % 16) as usize] = lit;
+    t
+}
+
 // Lamps A1 to A3 and appliance A4, all dark, and lamp B1 at 40, which no message for house A reaches; no shutter.
 pub(crate) fn new_room() -> Room {
     let t = [0u8; TABLE_BYTES];
@@ -34,6 +42,7 @@ pub(crate) fn new_room() -> Room {
     let t = with(t, 2, 1, 0);
     let t = with(t, 3, 2, 0);
     let t = with(t, 16, 1, 40);
+    let t = with_lit(t, 1, 1);
     let none = [0u8; SHUTTER_TABLE_BYTES];
     Room {
         table: t,
@@ -41,11 +50,23 @@ pub(crate) fn new_room() -> Room {
     }
 }
 
-// The room with lamp A2 at 64, which no module table may have.
+// The room, in which house A is dark, with lamp A2 at 64, which no module table may have.
 pub(crate) fn damaged(room: Room) -> Room {
     let table = room.table;
     let shutters = room.shutters;
     let t = with(table, 1, 1, 64);
+    let t = with_lit(t, 0, 1);
+    Room {
+        table: t,
+        shutters: shutters,
+    }
+}
+
+// The room with another number as that of the modules lit in house A.
+pub(crate) fn counted(room: Room, lit: u8) -> Room {
+    let table = room.table;
+    let shutters = room.shutters;
+    let t = with_lit(table, 0, lit);
     Room {
         table: t,
         shutters: shutters,

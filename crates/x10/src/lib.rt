@@ -5,6 +5,7 @@ use crate::commands::three_of;
 use burst::write_burst;
 use ground::CountAnswer;
 use ground::Refusal;
+use lit::lit;
 use message::Message;
 use radio::RadioBytes;
 use radio::RadioCommand;
@@ -28,6 +29,7 @@ ghost use Rattle.burst.specs.Writer.{burstAnswer, bufferAfter};
 ghost use Rattle.wire.specs.Messages.{messageFrom};
 ghost use Rattle.wire.specs.Packed.{packed};
 ghost use Rattle.receiver.specs.Bytes.{freshAnswer, freshAfter, receiveAnswer, stateAfter, eventsAfter};
+ghost use Rattle.lit.specs.Lit.{litAnswer};
 ghost use Rattle.room.specs.Rooms.{roomOf, roomAfter, applyAnswer, tallied};
 ghost use Rattle.room.specs.Mains.{lentTo, mainsAnswer, mainsAfter, lentAfter};
 ghost use Rattle.room.specs.Routes.{radioAnswer, radioAfter};
@@ -176,6 +178,14 @@ pub extern "C" fn x10_apply(
 {
     let m = handed_on(kind, house, third, data, command);
     pack(tally(apply(table, shutters, m)))
+}
+
+// How many modules of a house are above level 0, by the byte of a lent module table that says so: the count is that byte. Refused 1, 2, 3.
+#[no_mangle]
+pub extern "C" fn x10_lit(table: &[u8], house: u8) -> u64
+    ensures answer { λ r. ⌜ r ≡ packed (litAnswer house (now (table .entry))) ⌝ }
+{
+    pack(lit(table, house))
 }
 
 // Applies what a radio code means to both lent tables, both messages or none; the counts are those of `x10_apply`. Refused 1, 16, 3, 17, 12, 13, 14, in this

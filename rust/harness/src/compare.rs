@@ -5,14 +5,16 @@
 
 mod bench;
 mod burst;
+mod lit;
 mod mains;
 mod radio;
 mod receive;
 mod station;
 mod table;
 
-use crate::inputs::{self, SHUTTER, SHUTTER_TABLE, TABLE};
+use crate::inputs::{self, LIT, SHUTTER, SHUTTER_TABLE, TABLE};
 use crate::lent::Lent;
+use crate::reached;
 use crate::rng::Rng;
 use crate::tally::Tally;
 use x10_model::bytes::{self, EVENT, RECEIVER};
@@ -21,19 +23,17 @@ use x10_model::shutters::Shutters;
 use x10_model::table::Table;
 use x10_model::tables::Counts;
 
-/// Where the house bytes of a table stand.
-const HEARD: usize = TABLE - 16;
-
 /// All routines. `size` 1 is the usual run; the seed of each routine is made of the one given.
 pub fn all(seed: u64, size: usize) -> Vec<Tally> {
     type Compared = fn(&mut Rng, usize) -> Tally;
-    let routines: [Compared; 9] = [
+    let routines: [Compared; 10] = [
         burst::burst,
         receive::receiver_fresh,
         receive::receive,
         radio::radio_write,
         radio::radio_read,
         table::apply,
+        lit::lit,
         bench::bench_run,
         radio::radio_route,
         mains::mains_route,
@@ -75,6 +75,14 @@ impl Both {
         wrong.extend(Shutters::open(&mut shutters).and_then(|shutters| shutters.judge()).err());
         wrong
     }
+
+    /// Counts a refusal of the module table that is for its lit bytes alone.
+    fn refused(&self, refusal: Refusal, tally: &mut Tally) {
+        let table = self.table.before();
+        if refusal == Refusal::Record || refusal == Refusal::Table && table.len() == LIT {
+            reached::lit_broken(table).into_iter().for_each(|cause| tally.reach(cause));
+        }
+    }
 }
 
 /// Both tables, valid, then with bytes changed in either, neither or both, and lengths that are none.
@@ -90,7 +98,9 @@ fn damaged(rng: &mut Rng, table: &[u8], shutters: &[u8]) -> (Vec<u8>, Vec<u8>) {
         }
     }
     if rng.one_in(8) {
-        table.resize(inputs::length(rng, TABLE, TABLE + 8), 0);
+        // As it was before there were lit bytes, or of any length.
+        let len = if rng.one_in(4) { LIT } else { inputs::length(rng, TABLE, TABLE + 8) };
+        table.resize(len, 0);
     }
     if rng.one_in(8) {
         shutters.resize(inputs::length(rng, SHUTTER_TABLE, SHUTTER_TABLE + 8), 0);
@@ -105,6 +115,11 @@ fn changed(table: [&[u8]; 2], shutters: [&[u8]; 2]) -> Counts {
         before.chunks(size).zip(after.chunks(size)).take(256).filter(|(then, now)| then[1] != now[1]).count()
     };
     Counts { modules: differ(table, 8), shutters: differ(shutters, SHUTTER) }
+}
+
+/// Whether each house's byte is the number of its modules above level 0.
+fn lit_right(table: &[u8]) -> bool {
+    (0..16).all(|house| table[LIT + house] == inputs::lit_of(table, house))
 }
 
 /// A fresh receiver, by the model.

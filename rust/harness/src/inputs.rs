@@ -1,8 +1,10 @@
 //! Inputs for the comparison and for the timing: messages, lines, receivers, stations, tables and benches,
 //! valid and damaged.
 
+mod lit;
 mod shutters;
 
+pub use lit::{count_lit, lit_lamps, lit_of, HEARD, LIT};
 pub use shutters::{damage_shutters, shutter, shutters, type_0, SHUTTER, SHUTTER_TABLE};
 
 use crate::rng::Rng;
@@ -423,7 +425,7 @@ fn record(rng: &mut Rng, kind: u8) -> [u8; RECORD] {
 /// A table that keeps the rules, with `absent` of 4 records of kind 0. Where `alike`, one house in
 /// eight has one record sixteen times, so that a message may change every level of it.
 pub fn table(rng: &mut Rng, absent: usize, alike: bool, bytes: &mut [u8]) {
-    let (records, heard) = bytes.split_at_mut(RECORDS * RECORD);
+    let (records, ends) = bytes.split_at_mut(HEARD);
     for house in records.chunks_exact_mut(16 * RECORD) {
         let one = (alike && rng.one_in(8)).then(|| {
             let kind = 1 + rng.below(2) as u8;
@@ -434,15 +436,28 @@ pub fn table(rng: &mut Rng, absent: usize, alike: bool, bytes: &mut [u8]) {
             bytes.copy_from_slice(&one.unwrap_or_else(|| record(rng, kind)));
         }
     }
-    for byte in heard {
-        *byte = rng.below(2) as u8;
+    for heard in &mut ends[..16] {
+        *heard = rng.below(2) as u8;
     }
+    count_lit(bytes);
 }
 
-/// Changes one byte of a table to one at a bound; the table may keep the rules all the same.
+/// Changes one byte of a table to one at a bound, or what it says of lit modules; the table may keep the
+/// rules all the same.
 pub fn damage(rng: &mut Rng, bytes: &mut [u8]) {
-    let place = if rng.one_in(8) { RECORDS * RECORD + rng.below(16) } else { rng.below(RECORDS * RECORD) };
-    bytes[place] = edge(rng);
+    match rng.below(8) {
+        0 => bytes[HEARD + rng.below(16)] = edge(rng),
+        1 => lit::damage_lit(rng, bytes),
+        _ => {
+            let place = rng.below(HEARD);
+            bytes[place] = edge(rng);
+            // Counted again in one of two, so that no more than the record's own rules may be broken.
+            if rng.one_in(2) {
+                let house = place / (16 * RECORD);
+                bytes[LIT + house] = lit_of(bytes, house);
+            }
+        }
+    }
 }
 
 /// Four radio bytes: of a command, or with something wrong.

@@ -5,7 +5,7 @@
 //! rounds. Lent buffers are not cleared between calls; tables and receivers start each batch from the
 //! same bytes, which are put there outside the timed part.
 
-use crate::inputs::{self, RECORD, SHUTTER, SHUTTER_TABLE, TABLE};
+use crate::inputs::{self, HEARD, RECORD, SHUTTER, SHUTTER_TABLE, TABLE};
 use crate::rng::Rng;
 use std::hint::black_box;
 use std::time::Instant;
@@ -163,6 +163,7 @@ pub fn all(seed: u64, rounds: usize, only: Option<usize>) -> Vec<Row> {
     stations(rng, &mut rows);
     type_0(seed, &start, &mut rows);
     guest_house(seed, &mut rows);
+    lit(&mut rows);
     rows.rows
 }
 
@@ -333,9 +334,42 @@ fn guest_house(seed: u64, rows: &mut Rows) {
     let rng = &mut Rng::new(seed ^ 0xA2);
     let mut start = Start { table: full_table(rng), shutters: full_shutters(seed) };
     start.table[22 * RECORD..].fill(0);
+    inputs::count_lit(&mut start.table);
     start.shutters[8 * SHUTTER..].fill(0);
     let messages: Vec<[u8; 5]> = (0..256).map(|_| inputs::message(rng)).collect();
     apply(&start, &messages, "22 modules and 8 shutters, mixed messages, a call", rows);
+}
+
+/// How many modules of each house are lit, asked of a table with no module and of one with 256 lit ones. In
+/// the first two rows the plain Rust counts them anew, as a program does for which no number is kept.
+fn lit(rows: &mut Rows) {
+    let empty = vec![0; TABLE];
+    let mut full = empty.clone();
+    full[..HEARD].chunks_mut(RECORD).for_each(|record| record[..2].copy_from_slice(&[1, 63]));
+    inputs::count_lit(&mut full);
+    lit_beside_counting(&empty, "no module, counted anew in Rust, a call", rows);
+    lit_beside_counting(&full, "256 lit modules, counted anew in Rust, a call", rows);
+    row!(rows, "lit", "256 lit modules, a call", 16, (), |_| {}, |_none, lib| {
+        for house in 0..16 {
+            _ = black_box(&lib::lit(black_box(&full), black_box(house)));
+        }
+    });
+}
+
+fn lit_beside_counting(table: &[u8], timed: &'static str, rows: &mut Rows) {
+    let asked = |_: &mut ()| {
+        for house in 0..16 {
+            _ = black_box(&x10::lit(black_box(table), black_box(house)));
+        }
+    };
+    let counted = |_: &mut ()| {
+        for house in 0..16 {
+            _ = black_box(&bytes::lit_counted(black_box(table), black_box(house)));
+        }
+    };
+    let mut rattle = Over { lent: (), reset: |_: &mut ()| {}, run: asked };
+    let mut rust = Over { lent: (), reset: |_: &mut ()| {}, run: counted };
+    rows.add("lit", timed, 16, &mut rattle, &mut rust);
 }
 
 fn apply(start: &Start, messages: &[[u8; 5]], timed: &'static str, rows: &mut Rows) {

@@ -1,8 +1,11 @@
 //! Situations that a comparison must reach, and which case is in which. Each list has what its
 //! function gives; what the model gave back decides where the input alone does not.
 
+mod lit;
 mod shutters;
 
+pub use lit::{asked, asked_of, house, lit_broken, lit_form, lit_move};
+pub use lit::{ASKED, HOUSES, LIT_BROKEN, LIT_FORMS, LIT_MOVES, LIT_ORDERS};
 pub use shutters::{beside, broken, shutter_count, type_0};
 pub use shutters::{BESIDE, BROKEN, SHUTTER_COUNTS, SHUTTER_LENGTHS, TYPE_0};
 

@@ -17,6 +17,7 @@ use crate::radio::Command;
 use crate::receiver::{Event, Receiver};
 use crate::routes::{self, Mains};
 use crate::station::{judge_draw, judge_half, Station};
+use crate::table;
 use crate::tables::{Counts, Tables};
 
 /// Bytes of a message, a receiver, a station, an event and an answer.
@@ -226,6 +227,19 @@ pub fn apply(table: &mut [u8], shutters: &mut [u8], numbers: [u8; MESSAGE]) -> R
     let message = message(numbers)?;
     tables.judge()?;
     tables.apply(message)
+}
+
+/// How many modules of a house are above level 0, as the count, by the table's byte alone. 1, 2, 3.
+#[inline(never)]
+pub fn lit(table: &[u8], house: u8) -> Result<usize, Refusal> {
+    table::lit(table, house)
+}
+
+/// The same counted anew over the records, which is no routine of the library: it is timed beside `lit`.
+/// 1, 2.
+#[inline(never)]
+pub fn lit_counted(table: &[u8], house: u8) -> Result<usize, Refusal> {
+    table::counted(table, house)
 }
 
 /// Makes the bytes an empty station; count 0. 6.

@@ -17,7 +17,7 @@ pub fn radio(modules: &mut [u8], shutters: &mut [u8], code: &[u8]) -> Result<Cou
         modules.act(address);
     }
     modules.act(function);
-    Ok(Counts { modules: modules.levels_changed(house, &before), shutters: 0 })
+    Ok(Counts { modules: modules.recount(house, &before), shutters: 0 })
 }
 
 /// What the receiver made of a half-cycle, 5 or its event, and what the tables made of the message
@@ -63,7 +63,7 @@ mod tests {
     use crate::burst::write_burst;
     use crate::message::Message;
     use crate::shutters;
-    use crate::table::LEN;
+    use crate::table::{self, LEN};
 
     /// House A with three dark lamps, of which the second was addressed before a function.
     fn room() -> Vec<u8> {
@@ -129,9 +129,10 @@ mod tests {
             let radio = radio(&mut by_radio, &mut beside, &command.write().unwrap());
             assert_eq!(radio, Ok(Counts { modules: wall, shutters: 0 }));
             assert_eq!((&by_wall, beside), (&by_radio, shutters()));
+            assert_eq!(table::lit(&by_radio, 0), table::counted(&by_radio, 0));
         }
         let levels: Vec<u8> = by_wall.chunks(8).take(3).map(|record| record[1]).collect();
-        assert_eq!(levels, [60, 0, 0]);
+        assert_eq!((levels, table::lit(&by_wall, 0)), (vec![60, 0, 0], Ok(1)));
     }
 
     #[test]

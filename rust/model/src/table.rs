@@ -1,10 +1,12 @@
 //! The module table: 256 records of 8 bytes in order A1..P16, then one "command heard" byte per
-//! house.
+//! house, then one byte per house with the number of its modules above level 0.
 
 use crate::message::{Function, Message, Refusal};
 
 /// Bytes of a table.
-pub const LEN: usize = RECORDS * RECORD + HOUSES;
+pub const LEN: usize = LIT + HOUSES;
+/// Where the bytes that say how many modules are lit begin.
+pub(crate) const LIT: usize = RECORDS * RECORD + HOUSES;
 pub(crate) const RECORDS: usize = 256;
 const RECORD: usize = 8;
 const HOUSES: usize = 16;
@@ -30,6 +32,7 @@ const FULL: u8 = 63;
 pub struct Table<'a> {
     records: &'a mut [Record],
     heard: &'a mut [u8],
+    lit: &'a mut [u8],
 }
 
 /// What an extended command asks for.
@@ -89,6 +92,36 @@ impl Extended {
     }
 }
 
+/// How many modules of a house are above level 0, by its byte alone: a table that breaks another rule,
+/// or whose byte is not the number of those records, is answered all the same. 1, 2 for a house above 15,
+/// 3 for a byte above 16.
+pub fn lit(bytes: &[u8], house: u8) -> Result<usize, Refusal> {
+    let lit = usize::from(bytes[LIT + asked(bytes, house)?]);
+    if lit > UNITS {
+        return Err(Refusal::Record);
+    }
+    Ok(lit)
+}
+
+/// The number that `lit` gives for a valid table, counted anew over the records. 1, 2.
+pub fn counted(bytes: &[u8], house: u8) -> Result<usize, Refusal> {
+    let house = asked(bytes, house)?;
+    let (records, _) = bytes.as_chunks::<RECORD>();
+    Ok(records[house * UNITS..][..UNITS].iter().filter(|record| record[LEVEL] > 0).count())
+}
+
+/// The house that a question is about: 1, 2.
+fn asked(bytes: &[u8], house: u8) -> Result<usize, Refusal> {
+    let house = usize::from(house);
+    if bytes.len() != LEN {
+        return Err(Refusal::Table);
+    }
+    if house >= HOUSES {
+        return Err(Refusal::Message);
+    }
+    Ok(house)
+}
+
 /// Whether a table carries the message at all.
 fn carried(message: Message) -> bool {
     match message {
@@ -103,14 +136,16 @@ impl<'a> Table<'a> {
         if bytes.len() != LEN {
             return Err(Refusal::Table);
         }
+        let (bytes, lit) = bytes.split_at_mut(LIT);
         let (records, heard) = bytes.split_at_mut(RECORDS * RECORD);
         let (records, _) = records.as_chunks_mut::<RECORD>();
-        Ok(Table { records, heard })
+        Ok(Table { records, heard, lit })
     }
 
-    /// 3 where a record or a house byte breaks a rule.
+    /// 3 where a record or a house's bytes break a rule.
     pub fn judge(&self) -> Result<(), Refusal> {
-        if self.records.iter().all(record_ok) && self.heard.iter().all(|&byte| byte <= 1) {
+        let mut houses = self.records.chunks_exact(UNITS).zip(self.lit.iter());
+        if houses.all(|(records, &lit)| house_ok(records, lit)) && self.heard.iter().all(|&byte| byte <= 1) {
             Ok(())
         } else {
             Err(Refusal::Record)
@@ -125,7 +160,7 @@ impl<'a> Table<'a> {
         }
         let before = self.levels(message.house());
         self.act(message);
-        Ok(self.levels_changed(message.house(), &before))
+        Ok(self.recount(message.house(), &before))
     }
 
     /// The levels of a house: a message changes no other.
@@ -134,9 +169,17 @@ impl<'a> Table<'a> {
         std::array::from_fn(|unit| self.records[first + unit][LEVEL])
     }
 
-    /// How many levels of a house are other than those.
-    pub fn levels_changed(&self, house: u8, before: &[u8; UNITS]) -> usize {
-        differing(&self.records[usize::from(house) * UNITS..][..UNITS], before)
+    /// Stores how many modules of a house are above level 0 after `act`; how many of its levels are other
+    /// than those.
+    pub fn recount(&mut self, house: u8, before: &[u8; UNITS]) -> usize {
+        let house = usize::from(house);
+        let (mut lit, mut changed) = (0, 0);
+        for (record, before) in self.records[house * UNITS..][..UNITS].iter().zip(before) {
+            lit += u8::from(record[LEVEL] > 0);
+            changed += usize::from(record[LEVEL] != *before);
+        }
+        self.lit[house] = lit;
+        changed
     }
 
     /// The levels of all houses.
@@ -150,10 +193,10 @@ impl<'a> Table<'a> {
 
     /// How many levels of all houses are other than those.
     pub fn all_levels_changed(&self, before: &[u8; RECORDS]) -> usize {
-        differing(self.records, before)
+        self.records.iter().zip(before).filter(|(record, before)| record[LEVEL] != **before).count()
     }
 
-    /// What a message does; nothing where it is not carried.
+    /// What a message does to records and the "command heard" byte; nothing where it is not carried.
     pub fn act(&mut self, message: Message) {
         let house = usize::from(message.house());
         let records = &mut self.records[house * UNITS..][..UNITS];
@@ -182,9 +225,14 @@ impl<'a> Table<'a> {
     }
 }
 
-/// How many of the records have another level than the one beside them.
-fn differing(records: &[Record], levels: &[u8]) -> usize {
-    records.iter().zip(levels).filter(|(record, level)| record[LEVEL] != **level).count()
+/// Whether the records of a house keep the rules, and so many of them are above level 0.
+fn house_ok(records: &[Record], lit: u8) -> bool {
+    let mut count = 0;
+    let ok = records.iter().all(|record| {
+        count += u8::from(record[LEVEL] > 0);
+        record_ok(record)
+    });
+    ok && count == lit
 }
 
 fn record_ok(record: &Record) -> bool {
@@ -338,8 +386,14 @@ mod tests {
 
     /// A table with one module, A1.
     fn with_a1(record: Record) -> Vec<u8> {
+        house_a(&[record])
+    }
+
+    /// A table with these modules from A1 on, and their number above level 0.
+    fn house_a(records: &[Record]) -> Vec<u8> {
         let mut table = vec![0; LEN];
-        table[..RECORD].copy_from_slice(&record);
+        table[..RECORD * records.len()].copy_from_slice(&records.concat());
+        table[LIT] = records.iter().filter(|record| record[LEVEL] != 0).count() as u8;
         table
     }
 
@@ -351,37 +405,51 @@ mod tests {
         Message::Extended { house: 0, unit: 0, data, command }
     }
 
-    /// The record that a message makes of A1, and the count.
+    /// The record that a message makes of A1, and the count. A's byte says whether A1 is lit then.
     fn after(record: Record, message: Message) -> (Record, usize) {
         let mut table = with_a1(record);
         let count = apply(&mut table, message).unwrap();
+        assert_eq!(lit(&table, 0), Ok(usize::from(table[LEVEL] > 0)));
         (table[..RECORD].try_into().unwrap(), count)
+    }
+
+    /// What house A says is lit after each of the messages, all of which are carried.
+    fn lit_after(mut table: Vec<u8>, messages: &[Message]) -> Vec<usize> {
+        let one = |message: &Message| {
+            apply(&mut table, *message).unwrap();
+            lit(&table, 0).unwrap()
+        };
+        messages.iter().map(one).collect()
     }
 
     fn level_after(record: Record, message: Message) -> u8 {
         after(record, message).0[LEVEL]
     }
 
-    const LIT: fn(u8) -> Record = |level| [LAMP, level, 1, 0, 0, 0, 0, 0];
+    /// Addressed lamps, and others that are not.
+    const LAMP_AT: fn(u8) -> Record = |level| [LAMP, level, 1, 0, 0, 0, 0, 0];
+    const DARK: Record = [LAMP, 0, 0, 0, 0, 0, 0, 0];
+    const OFF: Record = [APPLIANCE, 0, 0, 0, 0, 0, 0, 0];
+    const RUNNING: Record = [APPLIANCE, 63, 0, 0, 0, 0, 0, 0];
 
     #[test]
     fn p8_lamp_2_dim() {
-        assert_eq!(level_after(LIT(2), function(Function::Dim)), 1);
+        assert_eq!(level_after(LAMP_AT(2), function(Function::Dim)), 1);
     }
 
     #[test]
     fn p9_lamp_0_dim() {
-        assert_eq!(level_after(LIT(0), function(Function::Dim)), 60);
+        assert_eq!(level_after(LAMP_AT(0), function(Function::Dim)), 60);
     }
 
     #[test]
     fn p10_lamp_62_bright() {
-        assert_eq!(level_after(LIT(62), function(Function::Bright)), 63);
+        assert_eq!(level_after(LAMP_AT(62), function(Function::Bright)), 63);
     }
 
     #[test]
     fn p11_lamp_31_with_c0() {
-        assert_eq!(level_after(LIT(20), extended(0xC0, 0x31)), 0);
+        assert_eq!(level_after(LAMP_AT(20), extended(0xC0, 0x31)), 0);
     }
 
     #[test]
@@ -391,14 +459,14 @@ mod tests {
 
     #[test]
     fn on_leaves_a_lit_module() {
-        assert_eq!(after(LIT(7), function(Function::On)), (LIT(7), 0));
-        assert_eq!(after(LIT(0), function(Function::On)), (LIT(63), 1));
+        assert_eq!(after(LAMP_AT(7), function(Function::On)), (LAMP_AT(7), 0));
+        assert_eq!(after(LAMP_AT(0), function(Function::On)), (LAMP_AT(63), 1));
         assert_eq!(after([LAMP, 0, 0, 0, 0, 0, 0, 0], function(Function::On)).1, 0);
     }
 
     #[test]
     fn all_units_off_unaddresses() {
-        assert_eq!(after(LIT(7), function(Function::AllUnitsOff)), ([LAMP, 0, 0, 0, 0, 0, 0, 0], 1));
+        assert_eq!(after(LAMP_AT(7), function(Function::AllUnitsOff)), ([LAMP, 0, 0, 0, 0, 0, 0, 0], 1));
     }
 
     #[test]
@@ -417,7 +485,7 @@ mod tests {
 
     #[test]
     fn an_address_after_a_function_starts_anew() {
-        let mut table = with_a1(LIT(5));
+        let mut table = with_a1(LAMP_AT(5));
         let byte = RECORDS * RECORD;
         table[RECORD] = LAMP;
         assert_eq!(apply(&mut table, function(Function::HailRequest)), Ok(0));
@@ -435,7 +503,7 @@ mod tests {
 
     #[test]
     fn extended_commands_touch_neither_addressing_nor_house_bytes() {
-        let mut table = with_a1(LIT(5));
+        let mut table = with_a1(LAMP_AT(5));
         let byte = RECORDS * RECORD;
         for heard in [0, 1] {
             table[byte] = heard;
@@ -448,7 +516,7 @@ mod tests {
 
     #[test]
     fn groups() {
-        let joined = after(LIT(5), extended(0x80, 0x30)).0;
+        let joined = after(LAMP_AT(5), extended(0x80, 0x30)).0;
         assert_eq!(joined, [LAMP, 5, 1, 4, 0, 0, 5, 0]);
         let (preset, count) = after(joined, extended(0x4A, 0x32));
         assert_eq!((preset, count), ([LAMP, 5, 1, 6, 0, 10, 5, 0], 0));
@@ -458,13 +526,13 @@ mod tests {
         assert_eq!(level_after(preset, extended(0x50, 0x3C)), 8);
         assert_eq!(level_after(preset, extended(0x40, 0x3C)), 2);
         assert_eq!(after(preset, extended(0x02, 0x35)).0, [LAMP, 5, 1, 4, 0, 0, 5, 0]);
-        assert_eq!(after(preset, extended(0xFF, 0x35)).0, LIT(5));
+        assert_eq!(after(preset, extended(0xFF, 0x35)).0, LAMP_AT(5));
         assert_eq!(after(preset, extended(0x00, 0x35)).0, preset);
         let appliance = [APPLIANCE, 63, 0, 0, 0, 0, 0, 0];
         assert_eq!(after(appliance, extended(0xC1, 0x32)).0, [APPLIANCE, 63, 0, 8, 0, 0, 0, 63]);
         assert_eq!(after(appliance, extended(0xC0, 0x32)).0, [APPLIANCE, 63, 0, 8, 0, 0, 0, 0]);
         // Joined at level 0: a member with preset 0.
-        assert_eq!(after(LIT(0), extended(0x00, 0x30)).0, [LAMP, 0, 1, 1, 0, 0, 0, 0]);
+        assert_eq!(after(LAMP_AT(0), extended(0x00, 0x30)).0, [LAMP, 0, 1, 1, 0, 0, 0, 0]);
         // 3C on a lamp at 0.
         let dark = [LAMP, 0, 0, 1, 0, 0, 0, 0];
         assert_eq!(level_after(dark, extended(0x00, 0x3C)), 60);
@@ -507,7 +575,7 @@ mod tests {
         assert_eq!(apply(&mut bad, none), Err(Refusal::Message));
         assert_eq!(apply(&mut bad, extended(0x20, 0x30)), Err(Refusal::Record));
         assert_eq!(bad, copy);
-        let mut good = with_a1(LIT(9));
+        let mut good = with_a1(LAMP_AT(9));
         let copy = good.clone();
         assert_eq!(apply(&mut good, extended(0x20, 0x30)), Err(Refusal::NotCarried));
         assert_eq!(good, copy);
@@ -534,8 +602,128 @@ mod tests {
             let mut table = with_a1(record);
             assert_eq!(apply(&mut table, function(Function::On)), Err(Refusal::Record), "{record:?}");
         }
-        let mut table = with_a1(LIT(0));
-        table[LEN - 1] = 2;
+        let mut table = with_a1(LAMP_AT(0));
+        table[LIT - 1] = 2;
         assert_eq!(apply(&mut table, function(Function::On)), Err(Refusal::Record));
+    }
+
+    #[test]
+    fn the_byte_follows_functions() {
+        use Function::{AllLightsOff, AllLightsOn, AllUnitsOff, Bright, Dim, Off, On, StatusOn};
+        let after = |records: &[Record], functions: &[Function]| {
+            lit_after(house_a(records), &functions.iter().map(|&each| function(each)).collect::<Vec<_>>())
+        };
+        let three = [LAMP_AT(0), DARK, RUNNING];
+        assert_eq!(after(&three, &[On, StatusOn, Off, Dim, Dim]), [2, 2, 1, 2, 2]);
+        assert_eq!(after(&three, &[AllLightsOn, AllLightsOff, Bright]), [3, 1, 2]);
+        assert_eq!(after(&three, &[AllLightsOn, AllUnitsOff, On]), [3, 0, 0]);
+        // A lamp that is dimmed stays lit.
+        assert_eq!(after(&[LAMP_AT(2)], &[Dim, Dim]), [1, 1]);
+        assert_eq!(after(&[LAMP_AT(0); UNITS], &[On, Bright, Off]), [16, 16, 0]);
+    }
+
+    #[test]
+    fn the_byte_follows_extended_commands() {
+        let unit = |unit, data, command| Message::Extended { house: 0, unit, data, command };
+        let level = |at, data| unit(at, data, 0x31);
+        let room = house_a(&[DARK, LAMP_AT(9), OFF]);
+        // A dark lamp, the same once more, an appliance, each back to 0, and an absent unit.
+        let levels = [level(0, 1), level(0, 63), level(2, 5), level(0, 0xC0), level(2, 0x40), level(9, 7)];
+        assert_eq!(lit_after(room.clone(), &levels), [2, 2, 3, 2, 1, 1]);
+        let (all, none) = (unit(9, 0, 0x33), unit(9, 0, 0x34));
+        assert_eq!(lit_after(room.clone(), &[all, all, none, none]), [3, 3, 0, 0]);
+        // Group 1 has A1 at 20 and A2 at 0; when it is called, one goes on and the other off.
+        let groups =
+            [unit(0, 0x40 + 20, 0x32), unit(1, 0x40, 0x32), unit(9, 0x40, 0x36), unit(9, 0x50, 0x36)];
+        assert_eq!(lit_after(room.clone(), &groups), [1, 1, 1, 0]);
+        let steps = [groups[0], unit(9, 0x40, 0x3C), unit(9, 0x50, 0x36), unit(9, 0x50, 0x3C)];
+        assert_eq!(lit_after(room, &steps), [1, 2, 1, 2]);
+    }
+
+    #[test]
+    fn each_house_has_its_own_byte() {
+        let mut table = vec![0; LEN];
+        table[..RECORDS * RECORD].as_chunks_mut().0.fill(DARK);
+        for house in 0..16 {
+            let on = Message::Function { house, function: Function::AllLightsOn };
+            assert_eq!(apply(&mut table, on), Ok(16));
+            let mut told = [0; HOUSES];
+            told[..=usize::from(house)].fill(16);
+            assert_eq!(table[LIT..], told);
+        }
+        assert_eq!(table[RECORDS * RECORD..LIT], [1; HOUSES]);
+    }
+
+    #[test]
+    fn a_byte_that_disagrees_breaks_a_rule() {
+        let records = [LAMP_AT(1), DARK, RUNNING];
+        for byte in 0..=255 {
+            let mut table = house_a(&records);
+            table[LIT] = byte;
+            let copy = table.clone();
+            let told = if byte == 2 { Ok(0) } else { Err(Refusal::Record) };
+            assert_eq!(apply(&mut table, function(Function::HailRequest)), told, "{byte}");
+            assert_eq!(table[LIT..], copy[LIT..]);
+            // 4 comes after it.
+            let told = if byte == 2 { Refusal::NotCarried } else { Refusal::Record };
+            let mut table = copy.clone();
+            assert_eq!(apply(&mut table, extended(0x20, 0x30)), Err(told), "{byte}");
+            assert_eq!(table, copy);
+        }
+        // Every house is judged, whichever the message is for.
+        for house in 0..HOUSES {
+            let mut table = house_a(&records);
+            table[LIT + house] += 1;
+            assert_eq!(apply(&mut table, function(Function::HailRequest)), Err(Refusal::Record));
+        }
+    }
+
+    #[test]
+    fn the_question_reads_its_byte_alone() {
+        // Whatever the records are: 5 for a table with no module, and where every other byte is 255.
+        for other in [0, 255] {
+            for house in 0..16 {
+                let mut table = [other; LEN];
+                let place = LIT + usize::from(house);
+                for byte in 0..=16 {
+                    table[place] = byte;
+                    assert_eq!(lit(&table, house), Ok(usize::from(byte)));
+                }
+                for byte in 17..=255 {
+                    table[place] = byte;
+                    assert_eq!(lit(&table, house), Err(Refusal::Record));
+                }
+            }
+        }
+    }
+
+    #[test]
+    fn the_question_refuses_in_order() {
+        let table = [255; LEN + 1];
+        for len in [0, LIT - 1, LIT, LEN - 1, LEN + 1] {
+            for house in [0, 15, 16, 255] {
+                assert_eq!(lit(&table[..len], house), Err(Refusal::Table));
+                assert_eq!(counted(&table[..len], house), Err(Refusal::Table));
+            }
+        }
+        for house in 16..=255 {
+            assert_eq!(lit(&table[..LEN], house), Err(Refusal::Message));
+            assert_eq!(counted(&table[..LEN], house), Err(Refusal::Message));
+        }
+        assert_eq!(lit(&table[..LEN], 15), Err(Refusal::Record));
+        assert_eq!((LIT, LEN), (2064, 2080));
+    }
+
+    #[test]
+    fn the_question_equals_the_count_over_a_valid_table() {
+        for n in 0..=UNITS {
+            let mut records = [DARK; UNITS];
+            records[UNITS - n..].fill(LAMP_AT(1));
+            records[0] = if n == UNITS { RUNNING } else { OFF };
+            let mut table = house_a(&records);
+            assert_eq!(apply(&mut table, function(Function::HailRequest)), Ok(0));
+            assert_eq!((lit(&table, 0), counted(&table, 0)), (Ok(n), Ok(n)));
+            assert_eq!((lit(&table, 1), counted(&table, 1)), (Ok(0), Ok(0)));
+        }
     }
 }

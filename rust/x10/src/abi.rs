@@ -24,6 +24,7 @@ unsafe extern "C" {
         data: u8,
         command: u8,
     ) -> u64;
+    pub fn x10_lit(table: *const u8, len: usize, house: u8) -> u64;
     pub fn x10_station_empty(station: *mut u8, len: usize) -> u64;
     pub fn x10_station_load(
         station: *mut u8,

@@ -1,4 +1,4 @@
-//! The static library `x10` for Rust programs: a safe function for each of its thirteen routines.
+//! The static library `x10` for Rust programs: a safe function for each of its fourteen routines.
 //!
 //! The library is target/staticlib/libx10.a, which `rt staticlib x10` writes. A package that depends
 //! on this one by path is linked with it.
@@ -33,6 +33,8 @@
 //!     x10::mains_route(&mut receiver, &line[..n], &mut table, &mut shutters, &mut events, &mut answers);
 //! assert_eq!((answer.number(), answer.modules(), answer.shutters()), (x10::number::OK, 1, 0));
 //! assert_eq!(table[1], 63);
+//! // One module of house A is lit now.
+//! assert_eq!(x10::lit(&table, 0).count(), 1);
 //!
 //! // The message came with the frame's last half-cycle, and its repeat with the burst's.
 //! assert_eq!(Event::at(&events, 24).message(), Some(on));
@@ -122,6 +124,14 @@ pub fn apply(table: &mut [u8], shutters: &mut [u8], message: Message) -> Answer 
             command,
         )
     })
+}
+
+/// How many modules of a house are above level 0: the count, 0 to 16. It is the module table's byte at
+/// [`LIT_AT`] + house, and nothing else of the table is looked at. Refusals: 1; 2, for a house above 15;
+/// 3, where that byte is above 16.
+#[inline]
+pub fn lit(table: &[u8], house: u8) -> Answer {
+    Answer::from_bits(unsafe { abi::x10_lit(table.as_ptr(), table.len(), house) })
 }
 
 /// Makes [`STATION_BYTES`] bytes an empty station. Count 0. Refusal: 6.

@@ -7,7 +7,7 @@ pub const VERSION: &str = env!("CARGO_PKG_VERSION");
 /// Numbers given back: 0, or that of a refusal. PAIR and UNSUPPORTED are events of a receiver.
 pub mod number {
     pub const OK: u8 = 0;
-    /// The module table's length is not 2,064.
+    /// The module table's length is not 2,080.
     pub const TABLE: u8 = 1;
     /// A house or unit above 15, or a kind or function code that makes no message.
     pub const MESSAGE: u8 = 2;
@@ -49,7 +49,7 @@ pub mod number {
 pub const fn text(number: u8) -> &'static str {
     match number {
         number::OK => "done",
-        number::TABLE => "TABLE: the module table's length is not 2,064",
+        number::TABLE => "TABLE: the module table's length is not 2,080",
         number::MESSAGE => "MESSAGE: house or unit above 15, or no message",
         number::RECORD => "RECORD: the module table breaks a rule",
         number::NOT_CARRIED => "NOT CARRIED: tables do not carry this message",
@@ -201,11 +201,13 @@ pub const EVENT_BYTES: usize = 6;
 /// Bytes of an answer in lent memory.
 pub const ANSWER_BYTES: usize = 8;
 /// Bytes of a module table.
-pub const TABLE_BYTES: usize = 2064;
+pub const TABLE_BYTES: usize = 2080;
 /// Bytes of a record of a module table.
 pub const RECORD_BYTES: usize = 8;
 /// Where a module table's "command heard" bytes begin, one for each house.
 pub const HEARD_AT: usize = 2048;
+/// Where the bytes begin that say how many modules of each house are above level 0.
+pub const LIT_AT: usize = 2064;
 /// Bytes of a shutter table.
 pub const SHUTTER_TABLE_BYTES: usize = 5120;
 /// Bytes of a shutter in its table.

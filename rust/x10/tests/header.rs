@@ -90,6 +90,7 @@ fn binding_numbers() -> BTreeMap<&'static str, usize> {
         SHUTTER_BYTES: SHUTTER_BYTES,
         RECORD_BYTES: RECORD_BYTES,
         HEARD_AT: HEARD_AT,
+        LIT_AT: LIT_AT,
         MOST_STATIONS: MOST_STATIONS,
     }
 }
@@ -144,7 +145,7 @@ fn the_texts() {
 fn where_records_begin() {
     assert_eq!((record_at(0, 0), record_at(0, 15), record_at(1, 0)), (0, 120, 128));
     assert_eq!(record_at(15, 15) + RECORD_BYTES, HEARD_AT);
-    assert_eq!(HEARD_AT + 16, TABLE_BYTES);
+    assert_eq!((HEARD_AT + 16, LIT_AT + 16), (LIT_AT, TABLE_BYTES));
 }
 
 #[test]
@@ -182,6 +183,6 @@ fn declared(text: &str, before: &str, after: &str, written: fn(&str) -> String) 
 #[test]
 fn every_routine_of_the_header() {
     let header = declared(HEADER, "\nuint64_t ", ");", in_rust);
-    assert_eq!(header.len(), 13);
+    assert_eq!(header.len(), 14);
     assert_eq!(declared(ABI, "pub fn ", ") -> u64;", str::to_string), header);
 }

@@ -10,6 +10,9 @@ house-at-requires c κs = search needs
 step-house-requires : tie.Need-step-house-requires
 step-house-requires c κs = search needs
 
+cast-house-after : tie.Need-cast-house-after
+cast-house-after c = search needs
+
 house-after-requires : tie.Need-house-after-requires
 house-after-requires c κs = search needs
 
@@ -21,8 +24,8 @@ same-length c = search needs
 
 returns : tie.Need-returns
 returns c =
-    let stepped = c .before .before .before .before .before .before .before in
-    ran _ _ _ _ _ _ _ _ (stepped .before .before .house-at .ensures)
+    let stepped = c .before .before .before .before .before .before .before .before in
+    ran _ _ _ _ _ _ _ _ _ (stepped .before .before .house-at .ensures)
     (c .before .before .before .house-after .ensures) (stepped .step-house .ensures) (c .before .before .put-house .ensures)
 
 pub run-act-spec : {M : Type 1} → statement M
@@ -31,6 +34,7 @@ run-act-spec =
     (tie.spec
     house-at-requires
     step-house-requires
+    cast-house-after
     house-after-requires
     put-house-requires
     same-length

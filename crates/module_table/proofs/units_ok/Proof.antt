@@ -1,14 +1,22 @@
--- `units_ok` meets its contract: each record of a house whose bytes are zeros keeps the rules.
-use mathlib.Core.Path.{sym, _∙_}
+-- `units_ok` meets its contract: each record of a house whose bytes are zeros keeps the rules, and none of its modules is lit.
+use mathlib.Core.Path.{_≡_, sym, _∙_}
+use mathlib.Core.Bool.{Bool, true}
+use mathlib.Core.List.{[]}
 use Prim.Native.Nat.{_+_, _*_}
 use native.Mathlib.Omega.{arith}
+use lib.Dec.{eqb}
+use Rattle.ground.specs.Records.{eachOk}
 use Rattle.ground.proofs.Records.{zeros-each}
-use Rattle.record.specs.Layout.{RECORD-BYTES, UNITS, modules}
-use Rattle.record.specs.ModuleTable.{recordOk}
-use Rattle.module_table.proofs.TableLaws.{modules-laid, zeros-ok}
+use Rattle.record.specs.declared.Record.{Record}
+use Rattle.record.specs.Layout.{RECORD-BYTES, UNITS, recordAt, modules, houseAt}
+use Rattle.record.specs.ModuleTable.{recordOk, litIn}
+use Rattle.module_table.proofs.TableLaws.{modules-laid, zeros-ok, zeros-dark, lit-none}
 use borrow.Author.Needs.{needs}
 use Rattle.module_table.proofs.units_ok.Statement.{statement}
 use Rattle.module_table.proofs.units_ok.Tie as tie
+
+house-at-requires : tie.Need-house-at-requires
+house-at-requires c κs = search needs
 
 mul-from : tie.Need-mul-from
 mul-from c = search needs
@@ -29,24 +37,34 @@ zeros-requires : tie.Need-zeros-requires
 zeros-requires c κs = search needs
 
 returns : tie.Need-returns
+unfolding houseAt
 returns c =
-    let args = c .before .before .before .before .args in
+    let args = c .before .before .before .before .before .before .args in
     let from = args .house * (UNITS * RECORD-BYTES) in
-    let none = sym (c .before .zeros .ensures) ∙ c .if1 .taken in
-    sym
-    (zeros-each modules modules-laid recordOk zeros-ok (args .t .now) (args .house * UNITS) UNITS from (from + UNITS * RECORD-BYTES) (omega arith)
-    (omega arith) (omega arith) none)
+    let none = sym (c .before .before .zeros .ensures) ∙ c .before .if1 .taken in
+    let each : (ok : Record → Bool) → ok (recordAt [] 0) ≡ true → eachOk modules ok (args .house * UNITS) UNITS (args .t .now) ≡ true =
+    λ ok good. zeros-each modules modules-laid ok good (args .t .now) (args .house * UNITS) UNITS from (from + UNITS * RECORD-BYTES) (omega arith) (omega arith)
+    (omega arith) none in
+    let lit : litIn (args .t .now) (args .house) ≡ 0 = lit-none (args .t .now) (args .house) UNITS (each (λ r. eqb (r .level) 0) zeros-dark) in
+    rw (each recordOk zeros-ok, lit, c .before .before .before .before .house-at .ensures)
 
-each-ok-requires : tie.Need-each-ok-requires
-each-ok-requires c κs = search needs
+judge-each-requires : tie.Need-judge-each-requires
+judge-each-requires c κs = search needs
+
+cast-result : tie.Need-cast-result
+cast-result c = search needs
 
 returns-2 : tie.Need-returns-2
-returns-2 c = search needs
+unfolding houseAt
+returns-2 c =
+    let judged = c .before .before .before .judge-each .ensures in
+    rw (judged .0, judged .1, c .before .before .before .before .before .before .before .house-at .ensures)
 
 pub units-ok-spec : {M : Type 1} → statement M
 units-ok-spec =
     tie.close
     (tie.spec
+    house-at-requires
     mul-from
     add-zeros
     sub-zeros
@@ -54,5 +72,6 @@ units-ok-spec =
     part-zeros-end
     zeros-requires
     returns
-    each-ok-requires
+    judge-each-requires
+    cast-result
     returns-2)

@@ -1,8 +1,8 @@
 //! The mains route: half-cycles through a receiver to both tables.
 
 use super::table::did;
-use super::{changed, damaged, fresh, one, Both, HEARD};
-use crate::inputs::{self, SHUTTER, SHUTTER_TABLE, TABLE};
+use super::{changed, damaged, fresh, one, Both};
+use crate::inputs::{self, HEARD, SHUTTER, SHUTTER_TABLE, TABLE};
 use crate::lent::Lent;
 use crate::reached;
 use crate::rng::Rng;
@@ -43,26 +43,30 @@ impl<'a> Case<'a> {
     }
 }
 
+const SITUATIONS: [&[&str]; 18] = [
+    &reached::SLICES,
+    &reached::WAITS,
+    &reached::WITHIN,
+    &reached::WHOLE,
+    &reached::SHUTTER_WHOLE,
+    &reached::FORMS,
+    &reached::COUNTS,
+    &reached::LIT_FORMS,
+    &reached::LIT_MOVES,
+    &reached::LIT_BROKEN,
+    &reached::TYPE_0,
+    &reached::SHUTTER_COUNTS,
+    &reached::SHUTTER_LENGTHS,
+    &reached::IMPOSSIBLE,
+    &reached::TABLE_ORDERS,
+    &reached::MAINS_ORDERS,
+    &reached::EVENTS_ROOM,
+    &reached::ANSWERS_ROOM,
+];
+
 pub fn mains_route(rng: &mut Rng, size: usize) -> Tally {
-    let situations: [&[&str]; 15] = [
-        &reached::SLICES,
-        &reached::WAITS,
-        &reached::WITHIN,
-        &reached::WHOLE,
-        &reached::SHUTTER_WHOLE,
-        &reached::FORMS,
-        &reached::COUNTS,
-        &reached::TYPE_0,
-        &reached::SHUTTER_COUNTS,
-        &reached::SHUTTER_LENGTHS,
-        &reached::IMPOSSIBLE,
-        &reached::TABLE_ORDERS,
-        &reached::MAINS_ORDERS,
-        &reached::EVENTS_ROOM,
-        &reached::ANSWERS_ROOM,
-    ];
     let mut mains = Mains {
-        tally: Tally::new("mains_route", &[0, 1, 3, 6, 9, 16, 17], &[0, 1, 2, 5, 10, 11], &situations),
+        tally: Tally::new("mains_route", &[0, 1, 3, 6, 9, 16, 17], &[0, 1, 2, 5, 10, 11], &SITUATIONS),
         state: Lent::new("state", 2 * RECEIVER, rng),
         halves: Lent::new("halves", MOST, rng),
         both: Both::new(rng),
@@ -238,6 +242,7 @@ impl Mains {
         if refusal == Refusal::State {
             reached::impossible(self.state.before()).into_iter().for_each(|cause| self.tally.reach(cause));
         }
+        self.both.refused(refusal, &mut self.tally);
         let (n, mut state) = (case.halves.len(), self.state.before().to_vec());
         let mut wrong = self.both.wrong();
         wrong.extend(bytes::receive(&mut state, &[], &mut []).err());

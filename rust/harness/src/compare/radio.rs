@@ -1,6 +1,6 @@
 //! Radio bytes, and the radio's route to both tables.
 
-use super::{damaged, Both};
+use super::{damaged, lit_right, Both};
 use crate::inputs::{self, SHUTTER_TABLE, TABLE};
 use crate::lent::Lent;
 use crate::reached;
@@ -97,9 +97,12 @@ struct Route {
 }
 
 pub fn radio_route(rng: &mut Rng, size: usize) -> Tally {
-    let situations: [&[&str]; 6] = [
+    // On goes with no off, so as many others are never lit.
+    let situations: [&[&str]; 8] = [
         &MOVES,
         &reached::COUNTS,
+        &reached::LIT_MOVES[..7],
+        &reached::LIT_BROKEN,
         &reached::SHUTTER_LENGTHS,
         &reached::TABLE_ORDERS,
         &reached::RADIO_ORDERS,
@@ -143,27 +146,33 @@ impl Route {
         let mut command = [0; 3];
         let read = bytes::radio_read(&bytes[..len], &mut command);
         match rust {
-            Ok(counts) => self.carried(command[0], counts.modules),
+            Ok(counts) => self.carried(command, counts.modules),
             Err(refusal) => {
+                both.refused(refusal, tally);
                 let wrong = both.wrong().into_iter().chain(read.err());
                 reached::orders(refusal, wrong, |order| tally.reach(order));
             }
         }
     }
 
-    /// Counts what a code did, and looks at the shutters, which it must leave.
-    fn carried(&mut self, command: u8, levels: usize) {
+    /// Counts what a code did, and looks at the lit bytes, and at the shutters, which it must leave.
+    fn carried(&mut self, [command, house, _]: [u8; 3], levels: usize) {
         let Route { tally, both: Both { table, shutters }, .. } = self;
         if levels > 0 {
             tally.reach(MOVES[usize::from(command)]);
         }
         tally.reach(reached::count(levels));
+        let moved = reached::lit_move(usize::from(house), [table.before(), table.after()]);
+        moved.into_iter().for_each(|moved| tally.reach(moved));
         let function = [2, 0, 0, 0, 0];
         reached::beside(function, table.before(), shutters.before())
             .into_iter()
             .for_each(|name| tally.reach(name));
         if shutters.before() != shutters.after() {
             tally.differ("a radio code changed the shutter table");
+        }
+        if !lit_right(table.after()) {
+            tally.differ("a radio code left a lit byte that disagrees");
         }
     }
 }

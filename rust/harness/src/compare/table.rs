@@ -1,7 +1,7 @@
 //! Messages applied to both tables.
 
-use super::{changed, damaged, Both, HEARD};
-use crate::inputs::{self, SHUTTER, SHUTTER_TABLE, TABLE};
+use super::{changed, damaged, lit_right, Both};
+use crate::inputs::{self, HEARD, LIT, SHUTTER, SHUTTER_TABLE, TABLE};
 use crate::reached;
 use crate::rng::Rng;
 use crate::tally::Tally;
@@ -18,10 +18,13 @@ struct Apply {
 const COMMANDS: [std::ops::Range<u8>; 2] = [0x2F..0x3F, 0x00..0x11];
 
 pub fn apply(rng: &mut Rng, size: usize) -> Tally {
-    let situations: [&[&str]; 12] = [
+    let situations: [&[&str]; 15] = [
         &reached::FORMS,
         &reached::NAMED,
         &reached::COUNTS,
+        &reached::LIT_FORMS,
+        &reached::LIT_MOVES,
+        &reached::LIT_BROKEN,
         &reached::LENGTHS,
         &reached::TYPE_0,
         &reached::SHUTTER_COUNTS,
@@ -95,16 +98,22 @@ impl Apply {
         }
     }
 
-    /// Every byte at every place of a record, over a record of each kind, and of the house bytes.
+    /// Every byte at every place of a record, over a record of each kind, and of the bytes of houses; with
+    /// the lit modules of house A as they were, and counted again.
     fn every_byte(&mut self) {
         let mut base = vec![0; TABLE];
         base[..16].copy_from_slice(&[1, 40, 1, 5, 9, 0, 63, 0, 2, 63, 0, 10, 0, 63, 0, 0]);
+        inputs::count_lit(&mut base);
         let shutters = vec![0; SHUTTER_TABLE];
         for place in (0..24).chain(HEARD..TABLE) {
             for byte in 0..=255 {
                 let mut damaged = base.clone();
                 damaged[place] = byte;
                 self.case(Some((&damaged, &shutters)), [2, 0, 4, 0, 0]);
+                if place < HEARD {
+                    damaged[LIT] = inputs::lit_of(&damaged, 0);
+                    self.case(Some((&damaged, &shutters)), [2, 0, 4, 0, 0]);
+                }
             }
         }
     }
@@ -184,6 +193,7 @@ impl Apply {
             wrong.extend(bytes::apply(&mut [0; TABLE], &mut [0; SHUTTER_TABLE], place).err());
         }
         reached::orders(refusal, wrong, |order| self.tally.reach(order));
+        self.both.refused(refusal, &mut self.tally);
         if refusal == Refusal::ShutterRecord {
             let broken = reached::broken(self.both.shutters.before());
             broken.into_iter().for_each(|cause| self.tally.reach(cause));
@@ -191,8 +201,8 @@ impl Apply {
     }
 }
 
-/// Counts what a message that was carried did to tables, each before and after. Looks at its counts, and at
-/// what it must leave: type 0 the modules, any other the shutters.
+/// Counts what a message that was carried did to tables, each before and after. Looks at its counts, at the
+/// lit bytes, and at what it must leave: type 0 the modules, any other the shutters.
 pub fn did(
     tally: &mut Tally,
     numbers: [u8; MESSAGE],
@@ -208,10 +218,16 @@ pub fn did(
         let form = reached::form(numbers, counts.modules, table[0][..HEARD] != table[1][..HEARD]);
         form.into_iter().for_each(|form| tally.reach(form));
         tally.reach(reached::count(counts.modules));
+        reached::lit_form(numbers, table).into_iter().for_each(|form| tally.reach(&form));
+        let moved = reached::lit_move(usize::from(numbers[1]), table);
+        moved.into_iter().for_each(|moved| tally.reach(moved));
         shutters
     };
     if left[0] != left[1] || counts != changed(table, shutters) {
         tally
             .differ(&format!("message {numbers:?} changed another table, or its counts are not the changes"));
+    }
+    if !lit_right(table[1]) {
+        tally.differ(&format!("message {numbers:?} left a lit byte that disagrees"));
     }
 }

@@ -206,11 +206,28 @@ fn mains_route_refuses_in_order() {
 }
 
 #[test]
+fn a_lit_byte_that_disagrees_is_refused_by_each() {
+    let (mut table, mut shutters) = (room(), windows());
+    table[table::LIT + 15] = 1;
+    let copy = table.clone();
+    assert_eq!(apply(&mut table, &mut shutters, A1), Err(Refusal::Record));
+    assert_eq!(radio_route(&mut table, &mut shutters, &[0x60, 0x9F, 0x00, 0xFF]), Err(Refusal::Record));
+    let routed = mains_route(&mut fresh(), &[], &mut table, &mut shutters, &mut [], &mut []);
+    assert_eq!(routed, Err(Refusal::Record));
+    assert_eq!(table, copy);
+    // The question answers it, and is not answered where the table is that of before there was one.
+    assert_eq!((lit(&table, 15), lit(&table, 16)), (Ok(1), Err(Refusal::Message)));
+    assert_eq!(lit(&table[..2064], 15), Err(Refusal::Table));
+    assert_eq!(apply(&mut table[..2064], &mut shutters, A1), Err(Refusal::Table));
+}
+
+#[test]
 fn a_message_that_is_not_carried_within_a_slice() {
     let mut table = room();
     let run = Run::over(&mut fresh(), &line(&[NOT_CARRIED, A_ON]), &mut table, &mut windows());
     assert_eq!(run.said(), [(GIVEN, 4), (REPEAT, 0), (GIVEN, 2 << 8), (REPEAT, 0)]);
     assert_eq!((run.counts, table[1], table[9]), (Counts { modules: 2, shutters: 0 }, 63, 63));
+    assert_eq!(lit(&table, 0), Ok(2));
 }
 
 #[test]
@@ -266,6 +283,7 @@ fn all_256_of_both_in_one_slice() {
     messages.push(type_0(0, 0, 0x05));
     let run = Run::over(&mut fresh(), &line(&messages), &mut table, &mut shutters);
     assert_eq!(run.counts, Counts { modules: 256, shutters: 256 });
+    assert_eq!(table[table::LIT..], [16; 16]);
 }
 
 const A1: [u8; MESSAGE] = [1, 0, 0, 0, 0];
@@ -589,5 +607,6 @@ fn a_run_of_the_mains_route_is_receive_and_apply_one_after_the_other() {
         };
         let (modules, shutters) = (differs(&before.0, &table, 8), differs(&before.1, &shutters, 20));
         assert_eq!(run.counts, Counts { modules, shutters });
+        assert_eq!(lit(&table, 0), lit_counted(&table, 0));
     }
 }

@@ -38,6 +38,7 @@ fn after_for(unit: u8, shutters: [Shutter; 4], data: u8, command: u8) -> ([Shutt
     let mut table = filled(shutters);
     let mut modules = vec![0; table::LEN];
     modules[..8].copy_from_slice(&[1, 40, 1, 1, 9, 0, 0, 0]);
+    modules[table::LIT] = 1;
     let before = modules.clone();
     let message = Message::Extended { house: 0, unit, data, command };
     let counts = tables::apply(&mut modules, &mut table, message).unwrap();

@@ -7,7 +7,7 @@ heard-after-requires : tie.Need-heard-after-requires
 heard-after-requires c κs = search needs
 
 returns : tie.Need-returns
-returns c = simp (c .heard-after .ensures)
+returns c = cc
 
 pub house-after-spec : {M : Type 1} → statement M
 house-after-spec = tie.close (tie.spec heard-after-requires returns)

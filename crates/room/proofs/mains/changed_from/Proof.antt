@@ -4,7 +4,7 @@ use mathlib.Core.List.{List}
 use Prim.Native.Nat.{ℕ, _-_, _≤_}
 use native.Mathlib.Omega.{arith}
 use borrow.Author.Needs.{needs}
-use Rattle.ground.specs.Records.{differing}
+use Rattle.ground.specs.Records.{sumBelow, differing}
 use Rattle.ground.proofs.Records.{ends-before}
 use Rattle.record.specs.Layout.{RECORDS}
 use Rattle.room.specs.Lent.{secondByte}
@@ -21,7 +21,7 @@ abbrev μ-loop : tie.MeasureT-loop
 μ-loop t size kept count₀ i₀ count i = RECORDS - i
 
 loop-holds : tie.Need-loop-holds Inv-loop μ-loop
-unfolding differing
+unfolding sumBelow
 loop-holds c = (omega arith, omega arith, λ before kept. refl)
 
 array-read-count-of : tie.Need-array-read-count-of Inv-loop μ-loop

@@ -17,6 +17,9 @@ loop-holds c = omega arith
 house-change-requires : tie.Need-house-change-requires Inv-loop μ-loop
 house-change-requires c κs = omega arith
 
+lit-change-requires : tie.Need-lit-change-requires Inv-loop μ-loop
+lit-change-requires c κs = omega arith
+
 add-h : tie.Need-add-h Inv-loop μ-loop
 add-h c = omega arith
 
@@ -32,4 +35,13 @@ returns c = omega arith
 pub changed-houses-spec : {M : Type 1} → statement M
 changed-houses-spec =
     tie.close
-    (tie.spec Inv-loop μ-loop loop-holds house-change-requires add-h loop-less loop-again returns)
+    (tie.spec
+    Inv-loop
+    μ-loop
+    loop-holds
+    house-change-requires
+    lit-change-requires
+    add-h
+    loop-less
+    loop-again
+    returns)
