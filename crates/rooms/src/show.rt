@@ -1,6 +1,7 @@
 // Lines for a reader: a message with what applying it answered, and what it changed in the two tables.
 use crate::line::ANSWERS;
 use ground::CountAnswer;
+use ground::Refusal;
 use ground::refusal_number;
 use libc::STDOUT_FILENO;
 use lit::lit;
@@ -61,12 +62,16 @@ fn counts(c: Changes) {
     print(b"\n");
 }
 
+fn refused(why: Refusal) {
+    print(b"refused ");
+    number(refusal_number(why) as u64);
+}
+
 fn answer(a: RoomAnswer) {
     match a {
         RoomAnswer::Done(c) => counts(c),
         RoomAnswer::Refused(why) => {
-            print(b"refused ");
-            number(refusal_number(why) as u64);
+            refused(why);
             print(b"\n");
         }
     }
@@ -76,10 +81,7 @@ fn answer(a: RoomAnswer) {
 pub(crate) fn lit_answer(a: CountAnswer) {
     match a {
         CountAnswer::Done(n) => number(n as u64),
-        CountAnswer::Refused(why) => {
-            print(b"refused ");
-            number(refusal_number(why) as u64);
-        }
+        CountAnswer::Refused(why) => refused(why),
     }
 }
 
@@ -159,15 +161,22 @@ fn record_change(before: &[u8; TABLE_BYTES], after: &[u8; TABLE_BYTES], i: usize
     }
 }
 
+// The letter of house h, where a line begins.
+fn house(h: usize)
+    requires { ⌜ h < 16 ⌝ }
+{
+    print(b"  ");
+    let house = [letter(h as u8)];
+    print(&house);
+}
+
 // The "command heard" byte of house h, if it differs, as it is after.
 fn house_change(before: &[u8; TABLE_BYTES], after: &[u8; TABLE_BYTES], h: usize)
     requires { ⌜ h < 16 ⌝ }
 {
     let x = after[HEARD_AT + h];
     if before[HEARD_AT + h] != x {
-        print(b"  ");
-        let house = [letter(h as u8)];
-        print(&house);
+        house(h);
         field(b" command heard ", x);
         print(b"\n");
     }
@@ -203,9 +212,7 @@ fn lit_change(before: &[u8; TABLE_BYTES], after: &[u8; TABLE_BYTES], h: usize)
         | (before[HEARD_AT + h] != after[HEARD_AT + h])
         | (before[LIT_AT + h] != after[LIT_AT + h])
     {
-        print(b"  ");
-        let house = [letter(h as u8)];
-        print(&house);
+        house(h);
         print(b" lit ");
         lit_answer(lit(after, h as u8));
         print(b"\n");

@@ -105,18 +105,19 @@ impl Mains {
     }
 
     /// Hands a line over, in slices of these lengths in any order. One that is refused for its room
-    /// is handed over again.
+    /// is handed over again; one that has room is not, so that the line ends whatever is refused.
     fn slices(&mut self, rng: &mut Rng, valid: Tables, line: &[u8], most: &[usize]) {
         self.case(&Case::exact(Some(&fresh()), &[], Some(valid)), rng);
         let mut rest = line;
         while !rest.is_empty() {
             let (halves, after) = rest.split_at(rng.pick(most).min(rest.len()));
             let mut case = Case::exact(None, halves, None);
-            if rng.one_in(8) {
+            let any_room = rng.one_in(8);
+            if any_room {
                 case.events = inputs::length(rng, case.events, case.events + 16);
                 case.answers = inputs::length(rng, case.answers, case.answers + 16);
             }
-            if self.case(&case, rng) {
+            if self.case(&case, rng) || !any_room {
                 rest = after;
             }
         }
