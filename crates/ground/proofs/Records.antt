@@ -8,7 +8,7 @@
 --     same-records                                        tables that are equal record by record are equal
 --     lent-records                                        LentRecords
 --     each-length, each-other, each-at, each-byte         n records stepped
---     sum-ext, sum-at-most, one-at-most                   a sum of equal numbers, and of numbers of at most 1
+--     sum-ext, sum-none, sum-at-most, one-at-most         a sum of equal numbers, of zeros, and of numbers of at most 1
 --     differing-ext, differing-before, differing-none, differing-at-most, differing-put, differing-as      the count of records that differ in a value
 --     stepped-length                                      one record stepped
 --     Turn, turn-first, turn-length, turn-next, turn-last                  a turn of a loop that steps records and counts
@@ -330,6 +330,11 @@ unfolding sumBelow
 sum-ext f g zero e = refl
 sum-ext f g (suc n) e = ap₂ _+_ (sum-ext f g n (λ i h. e i (omega arith))) (e n (omega arith))
 
+pub sum-none : (f : ℕ → ℕ) (n : ℕ) → ((i : ℕ) → i < n → f i ≡ 0) → sumBelow n f ≡ 0
+unfolding sumBelow
+sum-none f zero e = refl
+sum-none f (suc n) e = rw (sum-none f n (λ i h. e i (omega arith)), e n (omega arith))
+
 pub sum-at-most : (f : ℕ → ℕ) (n : ℕ) → ((i : ℕ) → f i ≤ 1) → sumBelow n f ≤ n
 unfolding sumBelow
 sum-at-most f zero small = omega arith
@@ -350,9 +355,7 @@ module _ {R : Type 0} (L : Layout R) (value : R → ℕ) where
   differing-before n b c t e = sum-ext _ _ n (λ i h. ap (λ (x : ℕ). pick (eqb x (value (L .at t i))) 0 1) (e i h))
 
   pub differing-none : (n : ℕ) (t : List ℕ) → differing (valueAt L value) n t t ≡ 0
-  unfolding sumBelow
-  differing-none zero t = refl
-  differing-none (suc n) t = rw (differing-none n t, eq-eqb (value (L .at t n)) (value (L .at t n)) refl)
+  differing-none n t = sum-none _ n (λ i h. ap (λ (b : Bool). pick b 0 1) (eq-eqb (value (L .at t i)) (value (L .at t i)) refl))
 
   pub differing-at-most : (n : ℕ) (b t : List ℕ) → differing (valueAt L value) n b t ≤ n
   differing-at-most n b t = sum-at-most _ n (λ i. one-at-most (eqb (value (L .at b i)) (value (L .at t i))))

@@ -16,8 +16,7 @@ use Rattle.ground.specs.Records.{stepEach}
 use Rattle.ground.specs.Refusals.{judged}
 use Rattle.ground.specs.declared.CountAnswer.the-variants.{Done}
 use Rattle.ground.proofs.Causes.{lowest-given}
-use Rattle.ground.proofs.Choices.{pick-both}
-use Rattle.ground.proofs.Records.{each-length, each-other, differing-put, differing-at-most}
+use Rattle.ground.proofs.Records.{each-length, each-other, one-at-most, differing-put, differing-at-most}
 use Rattle.plan.specs.declared.Act.{Act}
 use Rattle.record.specs.declared.House.{House}
 use Rattle.record.specs.Layout.{UNITS, HOUSES, RECORDS, TABLE-BYTES, recordAt, modules, houseAt}
@@ -55,7 +54,7 @@ module _ (a : Act) (own : House) (h : ℕ) (t : List ℕ) (house : h < HOUSES) (
       let ahead : recordAt t i ≡ recordAt s i =
       sym (each-other modules modules-laid (stepRecord a own) (step-keeps a own) (h * UNITS) t n i (λ k hk e. omega arith)) in
       let same = eqb (recordAt s i .level) (r .level) in
-      let one : pick same 0 1 ≤ 1 = pick-both (λ (x : ℕ). x ≤ 1) same 0 1 (omega arith) (omega arith) in
+      let one : pick same 0 1 ≤ 1 = one-at-most same in
       let few = step-changed n (omega arith) in
       rw (differing-put modules levelOf modules-laid RECORDS i t s r (record-sound r) (omega arith) (omega arith) ahead) (omega arith)
 

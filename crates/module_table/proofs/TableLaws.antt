@@ -12,7 +12,7 @@
 --     changed-ext, changed-none                         ground's laws, of the count of changed levels
 --     ran                                               an act run on a table
 use mathlib.Core.Path.{_≡_, refl, sym, ap, ap₂, _∙_}
-use mathlib.Core.Bool.{Bool, true, _&&_, and-assoc, and-comm, and-eq-true-iff}
+use mathlib.Core.Bool.{Bool, true, _&&_, and-assoc, and-comm}
 use mathlib.Core.List.{List, []}
 use Prim.Native.Nat.{ℕ, zero, suc, _+_, _*_, _≤_, _<_}
 use native.Mathlib.Nat.{add-zero}
@@ -21,8 +21,9 @@ use native.Mathlib.Omega.{arith}
 use lib.ListN.{length, getD, set, length-set}
 use lib.Seq.{getD-set-same, getD-set-other}
 use lib.Dec.{eqb}
+use Rattle.ground.specs.Choice.{pick}
 use Rattle.ground.specs.Records.{Sound, stepEach, allBelow, eachOk, sumBelow}
-use Rattle.ground.proofs.Records.{put-other, below-and, below-runs, sum-ext, differing-ext, differing-none}
+use Rattle.ground.proofs.Records.{put-other, below-at, below-and, below-runs, sum-ext, sum-none, differing-ext, differing-none}
 use Rattle.plan.specs.declared.Act.{Act}
 use Rattle.record.specs.Layout.{RECORD-BYTES, UNITS, HOUSES, RECORDS, HEARD-AT, LIT-AT, TABLE-BYTES}
 use Rattle.record.specs.Layout.{recordAt, recordBytes, modules, put, litByte, houseAt, putHouse}
@@ -133,11 +134,9 @@ lit-put t u h n r stored =
 
 -- none where each level is 0
 pub lit-none : (t : List ℕ) (h n : ℕ) → eachOk modules (λ r. eqb (r .level) 0) (h * UNITS) n t ≡ true → litTo t h n ≡ 0
-unfolding sumBelow allBelow
-lit-none t h zero dark = refl
-lit-none t h (suc n) dark =
-    let p = and-eq-true-iff (eachOk modules (λ r. eqb (r .level) 0) (h * UNITS) n t) (eqb (recordAt t (h * UNITS + n) .level) 0) .0 dark in
-    rw (lit-none t h n (p .0), p .1)
+lit-none t h n dark =
+    sum-none (λ k. litOf (recordAt t (h * UNITS + k))) n
+    (λ k below. ap (λ (b : Bool). pick b 0 1) (below-at (λ j. eqb (recordAt t (h * UNITS + j) .level) 0) n dark k below))
 
 -- ---- a table judged house by house
 

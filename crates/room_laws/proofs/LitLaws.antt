@@ -12,16 +12,17 @@ use lib.Dec.{eqb, leb}
 use Rattle.ground.specs.Choice.{pick}
 use Rattle.ground.specs.Records.{sumBelow}
 use Rattle.ground.specs.declared.CountAnswer.the-variants.{Done}
+use Rattle.ground.proofs.Choices.{pick-both}
 use Rattle.ground.proofs.Records.{below-at, sum-ext}
 use Rattle.message.specs.declared.Function.the-variants.{AllUnitsOff}
 use Rattle.message.specs.declared.Message.{Message}
 use Rattle.message.specs.declared.Message.the-variants.{Function as Command, Extended}
 use Rattle.plan.specs.Plans.{houseOf, extendedPlan}
-use Rattle.plan.specs.declared.Act.the-variants.{Obey, UnitsOn}
+use Rattle.plan.specs.declared.Act.{Act}
 use Rattle.record.specs.declared.House.{House}
 use Rattle.record.specs.declared.Record.{Record}
 use Rattle.record.specs.Layout.{RECORD-BYTES, UNITS, HOUSES, RECORDS, HEARD-AT, LIT-AT, recordAt, litByte, present}
-use Rattle.record.specs.ModuleTable.{allZeros, recordOk, litOf, litIn, stepRecord}
+use Rattle.record.specs.ModuleTable.{allZeros, recordOk, litOf, acted, stepRecord}
 use Rattle.record.proofs.RecordLaws.{good}
 use Rattle.module_table.proofs.HouseLaws.{whole}
 use Rattle.lit.specs.Lit.{litAnswer}
@@ -70,20 +71,14 @@ absent-dark r ok gone =
     first true b c d e f g all = refl
     first false b c d e f g all = all
 
-dark-step : (own : House) (n : ℕ) (r : Record) → recordOk r ≡ true → litOf (stepRecord (Obey AllUnitsOff) own n r) ≡ 0
+-- an act that leaves a module counted as x: so it counts where a module is, and 0 where none is
+lit-step : (a : Act) (own : House) (n x : ℕ) (r : Record) → litOf (acted a own n r) ≡ x → recordOk r ≡ true
+    → litOf (stepRecord a own n r) ≡ pick (present r) x 0
 unfolding stepRecord
-dark-step own n r ok = go (present r) refl
+lit-step a own n x r so ok = go (present r) refl
   where
-    go : (b : Bool) → present r ≡ b → litOf (stepRecord (Obey AllUnitsOff) own n r) ≡ 0
-    go true here = rw here
-    go false gone = rw (gone, absent-dark r ok gone)
-
-lit-step : (own : House) (n : ℕ) (r : Record) → recordOk r ≡ true → litOf (stepRecord UnitsOn own n r) ≡ pick (present r) 1 0
-unfolding stepRecord
-lit-step own n r ok = go (present r) refl
-  where
-    go : (b : Bool) → present r ≡ b → litOf (stepRecord UnitsOn own n r) ≡ pick (present r) 1 0
-    go true here = rw here
+    go : (b : Bool) → present r ≡ b → litOf (stepRecord a own n r) ≡ pick (present r) x 0
+    go true here = rw here so
     go false gone = rw (gone, absent-dark r ok gone)
 
 module _ (h : ℕ) (room : Room) (house : h < HOUSES) (ok : roomOk room ≡ true) where
@@ -106,10 +101,11 @@ all-off-all-on h room house ok =
     let low : leb h 15 ≡ true = le-leb h 15 (omega arith) in
     record {
       all-off = answered h room house ok (Command h AllUnitsOff) (λ n. 0)
-          (λ n below. ap litOf (done (Command h AllUnitsOff) room ok low refl refl .records n below) ∙ dark-step _ n _ (kept h room house ok n below));
+          (λ n below. ap litOf (done (Command h AllUnitsOff) room ok low refl refl .records n below) ∙ lit-step _ _ n 0 _ refl (kept h room house ok n below)
+          ∙ pick-both (λ (x : ℕ). x ≡ 0) (present (recordAt (room .modules) (h * UNITS + n))) 0 0 refl refl);
       all-on = λ u d unit byte.
           answered h room house ok (Extended h u d 0x33) _
           (λ n below.
           ap litOf (done (Extended h u d 0x33) room ok (rw (low, le-leb u 15 unit, le-leb d 255 byte)) refl refl .records n below)
-          ∙ lit-step _ n _ (kept h room house ok n below));
+          ∙ lit-step _ _ n 1 _ refl (kept h room house ok n below));
     }
