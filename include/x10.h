@@ -30,8 +30,8 @@ extern "C" {
 
 /* The version of this header and of the library: major * 10,000 + minor * 100 + patch. While the
  * major number is 0, a minor version may change what is exported. */
-#define X10_VERSION 1300
-#define X10_VERSION_TEXT "0.13.0"
+#define X10_VERSION 1400
+#define X10_VERSION_TEXT "0.14.0"
 
 /* Numbers given back: 0, those of refusals, and of the two BROKEN events. */
 enum x10_result {

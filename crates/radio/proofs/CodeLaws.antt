@@ -3,7 +3,8 @@
 --     nibbles-one-to-one                      no four bits stand twice in the houses' table
 --     nibble-read-back, house-read-back       four bits read back, both ways
 --     nibble-below, house-of-nibble-below     four bits and houses are below 16
---     Bits, bits, digits, bit-below           a number below 16 by its bits
+--     Bits, bits, in-c, digits, bit-below     a number below 16 by its bits
+--     unit-told                               the unit, told by the bits of its b and c
 --     bytes-one-to-one, no-shared-code        no two valid commands have the same b and c, or the same code
 use mathlib.Core.Path.{_≡_, refl, sym, ap, ap₂, _∙_}
 use mathlib.Core.Bool.{true}
@@ -15,7 +16,7 @@ use Rattle.ground.specs.Choice.{pick}
 use Rattle.ground.proofs.Choices.{below-sixteen, both-below}
 use Rattle.message.specs.Codes.{placeIn}
 use Rattle.message.proofs.Tables.{every-at, ReadsBack, read-back, one-to-one, entry-below}
-use Rattle.radio.specs.Codes.{houseNibbles, nibbleOf, houseOfNibble, houseInB, unitInB, unitInC, byteB, byteC, commandOk, sixteen}
+use Rattle.radio.specs.Codes.{houseNibbles, nibbleOf, houseOfNibble, houseInB, unitInB, unitInC, unitFrom, byteB, byteC, commandOk, sixteen}
 use Rattle.radio.specs.Statements.{NibblesOneToOne, NoSharedCode}
 use Rattle.radio.specs.declared.RadioCommand.{RadioCommand}
 use Rattle.radio.specs.declared.RadioCommand.the-variants.{On, Off, Bright, Dim}
@@ -62,6 +63,10 @@ pub record Bits (n w x y z : ℕ) : Type 0 where
 pub bits : (n w x y z : ℕ) → w < 2 → x < 2 → y < 2 → z < 2 → n ≡ w * 8 + x * 4 + y * 2 + z → Bits n w x y z
 bits n w x y z hw hx hy hz is = omega arith
 
+-- such a unit's bits in c
+pub in-c : {n w x y z : ℕ} → Bits n w x y z → unitInC n ≡ x * 64 + y * 8 + z * 16
+in-c b = omega (arith, b .four, b .two, b .one)
+
 pub digits : (n : ℕ) → n < 16 → n / 8 % 2 * 8 + n / 4 % 2 * 4 + n / 2 % 2 * 2 + n % 2 ≡ n
 unfolding sixteen
 digits n l =
@@ -81,9 +86,12 @@ record SwitchBits (c q t o f : ℕ) : Type 0 where
 switch-bits : (c q t o f : ℕ) → q < 2 → t < 2 → o < 2 → f < 2 → c ≡ q * 64 + t * 8 + o * 16 + f * 32 → SwitchBits c q t o f
 switch-bits c q t o f hq ht ho hf is = omega arith
 
--- the unit and the command, taken out of the bits
-unfoldable pub unitFrom : ℕ → ℕ → ℕ
-unitFrom b c = b / 4 % 2 * 8 + c / 64 % 2 * 4 + c / 8 % 2 * 2 + c / 16 % 2
+-- the unit, and the command, taken out of the bits
+pub unit-told : (h u c f : ℕ) → u < 16 → f < 2 → c ≡ unitInC u + f * 32 → unitFrom (houseInB h + unitInB u) c ≡ u
+unit-told h u c f hu hf is =
+    let s = switch-bits c (u / 4 % 2) (u / 2 % 2) (u % 2) f (bit-below (u / 4)) (bit-below (u / 2)) (bit-below u) hf (omega arith) in
+    let eight : (houseInB h + unitInB u) / 4 % 2 ≡ u / 8 % 2 = omega arith in
+    omega (arith, eight, s .six, s .three, s .four, digits u hu)
 
 unfoldable commandFrom : ℕ → ℕ → RadioCommand
 commandFrom b c =
@@ -93,23 +101,18 @@ commandFrom b c =
 
 from-switch : (h u c f : ℕ) → h < 16 → u < 16 → f < 2 → c ≡ unitInC u + f * 32
     → commandFrom (houseInB h + unitInB u) c ≡ pick (eqb f 0) (On h u) (Off h u)
-unfolding commandFrom unitFrom
+unfolding commandFrom
 from-switch h u c f hh hu hf is =
-    let s = switch-bits c (u / 4 % 2) (u / 2 % 2) (u % 2) f (bit-below (u / 4)) (bit-below (u / 2)) (bit-below u) hf is in
+    let s = switch-bits c (u / 4 % 2) (u / 2 % 2) (u % 2) f (bit-below (u / 4)) (bit-below (u / 2)) (bit-below u) hf (omega arith) in
     let low = s .low in
     let high : (houseInB h + unitInB u) / 16 ≡ nibbleOf h = omega arith in
-    let eight : (houseInB h + unitInB u) / 4 % 2 ≡ u / 8 % 2 = omega arith in
     simp (
       ne-eqb c 136 (λ e. omega arith),
       ne-eqb c 152 (λ e. omega arith),
       s .five,
       high,
       nibble-read-back h hh,
-      eight,
-      s .six,
-      s .three,
-      s .four,
-      digits u hu,
+      unit-told h u c f hu hf is,
     )
 
 from-step : (h : ℕ) → h < 16 → houseOfNibble (houseInB h / 16) ≡ h

@@ -2,24 +2,25 @@
 --
 --     both-hold, one-fails                             what the code's test of both complements says of the definition's
 --     code-again                                       where both are right, b and c make the code again
---     unit-masked                                      the unit by the code's masks
 --     bits-of-switch, bits-of-step                     what the b and c of a code are, where c is below 128 and where it is not
 --     on-named, off-named, bright-named, dim-named     the command of such b and c: its b and c are these
---     switch-test, step-test                           the test whether b and c are those of a code
+--     of-switch, bits-left                             what the test whether b and c are those of an on or off says of them
+--     switch-told, step-told                           that test, and the one of what is left, by the code's own
 use mathlib.Core.Path.{_≡_, refl, sym, ap, _∙_}
-use mathlib.Core.Bool.{Bool, true, false, not, _&&_, _||_, and-eq-true-iff}
+use mathlib.Core.Bool.{Bool, true, false, not, _&&_, _||_, and-eq-true-iff, true≢false}
 use mathlib.Core.List.{List, [], _∷_}
 use mathlib.Core.Logic.{_⊎_, inl, inr, ⊎-elim}
 use Prim.Native.Nat.{ℕ, _+_, _-_, _*_, _/_, _%_, _<_}
 use native.Mathlib.Omega.{arith}
-use borrow.Author.Tests.{eqb-true, eqb-false, not-true, not-false, le-leb}
+use borrow.Author.Tests.{eqb-true, eqb-false, ltb-true, ltb-false, not-true, not-false, le-leb}
 use lib.Bits.{bitAnd, and-step, and-high}
-use lib.Dec.{eqb, leb}
+use lib.Dec.{eqb, leb, ltb}
 use lib.ListN.{length, getD}
-use Rattle.radio.specs.Codes.{houseOfNibble, houseInB, unitInB, unitInC, byteB, byteC, codeFrom, commandOk, among, commandOf}
+use Rattle.ground.proofs.Choices.{both}
+use Rattle.radio.specs.Codes.{houseOfNibble, houseInB, unitInB, unitInC, unitFrom, byteB, byteC, codeFrom, commandOk, among, commandOf}
 use Rattle.radio.specs.declared.RadioCommand.{RadioCommand}
 use Rattle.radio.specs.declared.RadioCommand.the-variants.{On, Off, Bright, Dim}
-use Rattle.radio.proofs.CodeLaws.{house-read-back, house-of-nibble-below, bit-below, Bits, bits, digits, unitFrom}
+use Rattle.radio.proofs.CodeLaws.{house-read-back, house-of-nibble-below, bit-below, Bits, bits, in-c, digits}
 use Rattle.radio.proofs.CommandLaws.{code-of-named, named-of-code}
 
 -- ---- two tests joined: whether one of two fails
@@ -56,7 +57,7 @@ house-again b l = ap (λ (n : ℕ). n * 16) (house-read-back (b / 16) (omega ari
 house-fits : (b : ℕ) → b < 256 → leb (houseOfNibble (b / 16)) 15 ≡ true
 house-fits b l = le-leb (houseOfNibble (b / 16)) 15 (omega (arith, house-of-nibble-below (b / 16) (omega arith)))
 
--- the masks of bit 1, of bit 2, of bits 2 and 0, and of bits 3, 1 and 0
+-- the masks of bit 1, of bits 2 and 0, and of bits 3, 1 and 0
 two : (n : ℕ) → bitAnd n 2 ≡ n / 2 % 2 * 2
 two n = and-high n 1 1
 
@@ -64,9 +65,6 @@ two-of-half : (n : ℕ) → bitAnd (n / 2) 2 ≡ n / 4 % 2 * 2
 two-of-half n =
     let quarter : n / 2 / 2 ≡ n / 4 = omega arith in
     two (n / 2) ∙ ap (λ (m : ℕ). m % 2 * 2) quarter
-
-four : (n : ℕ) → bitAnd n 4 ≡ n / 4 % 2 * 4
-four n = omega (arith, and-step n 4, two-of-half n)
 
 five : (n : ℕ) → bitAnd n 5 ≡ n / 4 % 2 * 4 + n % 2
 five n = omega (arith, and-step n 5, two-of-half n)
@@ -106,21 +104,12 @@ bits-again c l z =
 
 module _ (b c : ℕ) where
   unit-bits : Bits (unitFrom b c) (b / 4 % 2) (c / 64 % 2) (c / 8 % 2) (c / 16 % 2)
-  unfolding unitFrom
   unit-bits =
       bits (unitFrom b c) (b / 4 % 2) (c / 64 % 2) (c / 8 % 2) (c / 16 % 2)
-      (bit-below (b / 4)) (bit-below (c / 64)) (bit-below (c / 8)) (bit-below (c / 16)) refl
-
-  -- the unit as the code takes it out, by masks
-  pub unit-masked : bitAnd b 4 * 2 + bitAnd (c / 16) 5 + bitAnd (c / 4) 2 ≡ unitFrom b c
-  unfolding unitFrom
-  unit-masked =
-      let e₆ : c / 16 / 4 ≡ c / 64 = omega arith in
-      let e₃ : c / 4 / 2 ≡ c / 8 = omega arith in
-      simp (four b, five (c / 16), two (c / 4), e₆, e₃) (omega arith)
+      (bit-below (b / 4)) (bit-below (c / 64)) (bit-below (c / 8)) (bit-below (c / 16)) (omega arith)
 
   unit-again : c < 128 → c % 8 ≡ 0 → unitInC (unitFrom b c) + c / 32 % 2 * 32 ≡ c
-  unit-again l z = simp (unit-bits .four, unit-bits .two, unit-bits .one) (bits-again c l z)
+  unit-again l z = ap (λ (n : ℕ). n + c / 32 % 2 * 32) (in-c unit-bits) ∙ bits-again c l z
 
 -- ---- which b and c are those of a code, and of which command
 
@@ -143,7 +132,7 @@ module _ (b c : ℕ) where
         go (Bright h) eb ec = absurd (omega arith)
         go (Dim h) eb ec = absurd (omega arith)
 
-    pub bits-of-step : 127 < c → (b % 16 ≡ 0) × ((c ≡ 136) ⊎ (c ≡ 152))
+    bits-of-step : 127 < c → (b % 16 ≡ 0) × ((c ≡ 136) ⊎ (c ≡ 152))
     bits-of-step l = go (commandOf (codeFrom b c)) (bytes-of .0) (bytes-of .1)
       where
         go : (k : RadioCommand) → byteB k ≡ b → byteC k ≡ c → (b % 16 ≡ 0) × ((c ≡ 136) ⊎ (c ≡ 152))
@@ -176,14 +165,26 @@ module _ (b c : ℕ) (small : b < 256) where
     pub off-named : (c / 32 % 2 ≡ 0 → ⊥) → Names (Off (houseOfNibble (b / 16)) (unitFrom b c))
     off-named z = named-by b c (Off (houseOfNibble (b / 16)) (unitFrom b c)) fits b-again (omega (arith, unit-again b c low pc))
 
--- ---- the test of b and c
+-- ---- the tests of b and c
+
+module _ (b c : ℕ) where
+  pub of-switch : (ltb c 128 && among (codeFrom b c)) ≡ true → (c < 128) × (among (codeFrom b c) ≡ true)
+  of-switch t = let p = and-eq-true-iff (ltb c 128) (among (codeFrom b c)) .0 t in (ltb-true c 128 (p .0), p .1)
+
+  -- what is a code, and neither on nor off, is bright or dim
+  pub bits-left : (ltb c 128 && among (codeFrom b c)) ≡ false → among (codeFrom b c) ≡ true → (b % 16 ≡ 0) × ((c ≡ 136) ⊎ (c ≡ 152))
+  bits-left left one = bits-of-step b c one (go (ltb c 128) refl)
+    where
+      go : (x : Bool) → ltb c 128 ≡ x → 127 < c
+      go true low = absurd (true≢false (sym (both low one) ∙ left))
+      go false low = omega (arith, ltb-false c 128 low)
 
 not-one : (t : Bool) → (t ≡ true → ⊥) → t ≡ false
 not-one true never = absurd (never refl)
 not-one false never = refl
 
 module _ (b c : ℕ) (small : b < 256) where
-  pub switch-test : c < 128 → (eqb (bitAnd b 11) 0 && eqb (c % 8) 0) ≡ among (codeFrom b c)
+  switch-test : c < 128 → (eqb (bitAnd b 11) 0 && eqb (c % 8) 0) ≡ among (codeFrom b c)
   switch-test low = go (eqb (bitAnd b 11) 0) (eqb (c % 8) 0) (eqb (c / 32 % 2) 0) refl refl refl
     where
       go : (x y on : Bool) → eqb (bitAnd b 11) 0 ≡ x → eqb (c % 8) 0 ≡ y → eqb (c / 32 % 2) 0 ≡ on → (x && y) ≡ among (codeFrom b c)
@@ -196,12 +197,20 @@ module _ (b c : ℕ) (small : b < 256) where
       go true false on p q z = sym (not-one (among (codeFrom b c)) (λ one. eqb-false (c % 8) 0 q (bits-of-switch b c one low .1)))
       go false y on p q z = sym (not-one (among (codeFrom b c)) (λ one. eqb-false (bitAnd b 11) 0 p (low-masked b (bits-of-switch b c one low .0))))
 
-  pub step-test : 127 < c → (eqb (b % 16) 0 && (eqb c 136 || eqb c 152)) ≡ among (codeFrom b c)
-  step-test high = go (eqb (b % 16) 0) (eqb c 136) (eqb c 152) refl refl refl
+  -- the code's three tests
+  pub switch-told : ((ltb c 128 && eqb (bitAnd b 11) 0) && eqb (c % 8) 0) ≡ (ltb c 128 && among (codeFrom b c))
+  switch-told = go (ltb c 128) refl
+    where
+      go : (x : Bool) → ltb c 128 ≡ x → ((x && eqb (bitAnd b 11) 0) && eqb (c % 8) 0) ≡ (x && among (codeFrom b c))
+      go true low = switch-test (ltb-true c 128 low)
+      go false low = refl
+
+  pub step-told : (ltb c 128 && among (codeFrom b c)) ≡ false → (eqb (b % 16) 0 && (eqb c 136 || eqb c 152)) ≡ among (codeFrom b c)
+  step-told left = go (eqb (b % 16) 0) (eqb c 136) (eqb c 152) refl refl refl
     where
       go : (x y z : Bool) → eqb (b % 16) 0 ≡ x → eqb c 136 ≡ y → eqb c 152 ≡ z → (x && (y || z)) ≡ among (codeFrom b c)
       go true true z p q r = sym (bright-named b c small (eqb-true (b % 16) 0 p) (eqb-true c 136 q) .0)
       go true false true p q r = sym (dim-named b c small (eqb-true (b % 16) 0 p) (eqb-true c 152 r) .0)
       go true false false p q r =
-          sym (not-one (among (codeFrom b c)) (λ one. ⊎-elim (eqb-false c 136 q) (eqb-false c 152 r) (bits-of-step b c one high .1)))
-      go false y z p q r = sym (not-one (among (codeFrom b c)) (λ one. eqb-false (b % 16) 0 p (bits-of-step b c one high .0)))
+          sym (not-one (among (codeFrom b c)) (λ one. ⊎-elim (eqb-false c 136 q) (eqb-false c 152 r) (bits-left b c left one .1)))
+      go false y z p q r = sym (not-one (among (codeFrom b c)) (λ one. eqb-false (b % 16) 0 p (bits-left b c left one .0)))

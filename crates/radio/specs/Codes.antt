@@ -22,12 +22,54 @@ houseOfNibble n = placeIn eqb n houseNibbles
 abbrev pub houseInB : ℕ → ℕ
 houseInB h = nibbleOf h * 2 ^ 4
 
+-- n's bit i, 0 or 1
+abbrev pub bitAt : ℕ → ℕ → ℕ
+bitAt n i = n / 2 ^ i % 2
+
+-- one of the bits of b, or of c
+pub data Place : Type 0 where
+  b's c's : ℕ → Place
+
+-- one of the unit's bits, by its weight, and the place where it stands
+pub data UnitBit : Type 0 where
+  its : ℕ → Place → UnitBit
+
 -- "For a unit number u (0 to 15): its 8 is b's bit 2; its 4, 2, 1 are c's bits 6, 3, 4."
+abbrev pub unitBits : List UnitBit
+unitBits =
+    its 8 (b's 2)
+    ∷ its 4 (c's 6)
+    ∷ its 2 (c's 3)
+    ∷ its 1 (c's 4)
+    ∷ []
+
+-- the sum of what each of them gives
+abbrev pub total : (UnitBit → ℕ) → List UnitBit → ℕ
+total f [] = 0
+total f (x ∷ xs) = f x + total f xs
+
+-- written: what a bit of the unit u is in b, and in c
+abbrev pub bitInB : ℕ → UnitBit → ℕ
+bitInB u (its w (b's i)) = u / w % 2 * 2 ^ i
+bitInB u (its w (c's i)) = 0
+
+abbrev pub bitInC : ℕ → UnitBit → ℕ
+bitInC u (its w (b's i)) = 0
+bitInC u (its w (c's i)) = u / w % 2 * 2 ^ i
+
 abbrev pub unitInB : ℕ → ℕ
-unitInB u = u / 8 % 2 * 2 ^ 2
+unitInB u = total (bitInB u) unitBits
 
 abbrev pub unitInC : ℕ → ℕ
-unitInC u = u / 4 % 2 * 2 ^ 6 + u / 2 % 2 * 2 ^ 3 + u % 2 * 2 ^ 4
+unitInC u = total (bitInC u) unitBits
+
+-- read: what a bit of b, or of c, is in the unit
+abbrev pub bitInUnit : ℕ → ℕ → UnitBit → ℕ
+bitInUnit b c (its w (b's i)) = bitAt b i * w
+bitInUnit b c (its w (c's i)) = bitAt c i * w
+
+abbrev pub unitFrom : ℕ → ℕ → ℕ
+unitFrom b c = total (bitInUnit b c) unitBits
 
 -- b: the house and the unit's part; of bright and dim "b's bit 2 clear". "All other bits are 0."
 abbrev pub byteB : RadioCommand → ℕ

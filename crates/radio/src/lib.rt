@@ -3,11 +3,13 @@ use ground::Refusal;
 use message::Function;
 use message::Message;
 ghost use mathlib.Core.Path.{_≡_};
-ghost use mathlib.Core.Bool.{true};
+ghost use mathlib.Core.Bool.{true, _&&_};
 ghost use mathlib.Core.List.{[], _∷_};
 ghost use Prim.Native.Nat.{_+_, _/_, _<_};
+ghost use lib.Dec.{ltb};
 ghost use Rattle.ground.specs.Refusals.{judged, reports, refuses};
-ghost use Rattle.radio.specs.Codes.{nibbleOf, houseOfNibble, commandOk, houseInB, unitInB, unitInC, byteB, byteC, codeFrom, fourBytes, among, commandOf};
+ghost use Rattle.radio.specs.Codes.{nibbleOf, houseOfNibble, commandOk, houseInB, bitAt, unitInB, unitInC, unitFrom, byteB, byteC};
+ghost use Rattle.radio.specs.Codes.{codeFrom, fourBytes, among, commandOf};
 ghost use Rattle.radio.specs.Answers.{writeCauses, writeAnswer, writeReport, readCauses, readAnswer, readReport};
 ghost use Rattle.radio.specs.Answers.{addressThen, messagesMeant, messagesOf, messagesCauses, messagesAnswer, messagesReport};
 
@@ -123,16 +125,40 @@ pub fn write(command: RadioCommand) -> RadioBytes
     RadioBytes::Bytes(b, 255 - b, c, 255 - c)
 }
 
-// Whether b and c are those of one of the 544 codes. Below 128 c is that of an on or off: bits 3, 1 and 0 of b and bits 2, 1 and 0 of
-// c must be 0.
+// Whether b and c are those of an on or off: bits 3, 1 and 0 of b and bits 7, 2, 1 and 0 of c are 0.
+fn is_switch(b: u8, c: u8) -> bool
+    ensures { λ r. ⌜ r ≡ (ltb c 128 && among (codeFrom b c)) ⌝ }
+{
+    (c < 128) & (b & 11 == 0) & (c % 8 == 0)
+}
+
+// Whether b and c are those of one of the 544 codes.
 fn is_code(b: u8, c: u8) -> bool
     ensures { λ r. ⌜ r ≡ among (codeFrom b c) ⌝ }
 {
-    if c < 128 {
-        (b & 11 == 0) & (c % 8 == 0)
-    } else {
-        (b % 16 == 0) & ((c == 136) | (c == 152))
+    if is_switch(b, c) {
+        return true;
     }
+    (b % 16 == 0) & ((c == 136) | (c == 152))
+}
+
+// A byte's bit i, 0 or 1.
+fn bit_at(byte: u8, i: u8) -> u8
+    requires { ⌜ i < 8 ⌝ }
+    ensures { λ r. ⌜ r ≡ bitAt byte i ⌝ }
+{
+    (byte >> i) % 2
+}
+
+// The unit in b and c: its 8 is b's bit 2; its 4, 2, 1 are c's bits 6, 3, 4.
+fn unit_from(b: u8, c: u8) -> u8
+    ensures { λ r. ⌜ r ≡ unitFrom b c ⌝ }
+{
+    let its_8 = bit_at(b, 2) * 8;
+    let its_4 = bit_at(c, 6) * 4;
+    let its_2 = bit_at(c, 3) * 2;
+    let its_1 = bit_at(c, 4) * 1;
+    its_1 + its_2 + its_4 + its_8
 }
 
 // The on or off that b and c name.
@@ -140,8 +166,7 @@ fn switch_of(house: u8, b: u8, c: u8) -> RadioCommand
     requires { ⌜ (house ≡ houseOfNibble (b / 16)) × (among (codeFrom b c) ≡ true) × (c < 128) ⌝ }
     ensures { λ r. ⌜ r ≡ commandOf (codeFrom b c) ⌝ }
 {
-    // b's bit 2 is the unit's 8; in c / 16 its 4 and 1 stand at their own places, and in c / 4 its 2.
-    let unit = (b & 4) * 2 + ((c / 16) & 5) + ((c / 4) & 2);
+    let unit = unit_from(b, c);
     if c / 32 % 2 == 0 {
         RadioCommand::On {
             house: house,
@@ -161,7 +186,7 @@ fn command_of(b: u8, c: u8) -> RadioCommand
     ensures { λ r. ⌜ r ≡ commandOf (codeFrom b c) ⌝ }
 {
     let house = house_of_nibble(b / 16);
-    if c < 128 {
+    if is_switch(b, c) {
         return switch_of(house, b, c);
     }
     if c == 136 {

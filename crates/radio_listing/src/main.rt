@@ -1,5 +1,5 @@
-// Holds the listing of radio codes of source 004 against the writer. Prints each row where the two differ: its number, what
-// the listing prints and what the writer gives; then totals.
+// Holds the listing of radio codes of source 004 against the writer and the reader. Prints each row where they differ: its number, what
+// the listing prints, what the reader names and what the writer gives; then totals.
 //
 // data/listing.tsv has a row for each of the 544 commands, house after house: the command, b and c as the listing prints them,
 // parted by tabs. A byte after '/' is printed a line below its command. A row that differs from 01's rule is marked: what the
@@ -7,6 +7,7 @@
 use libc::STDOUT_FILENO;
 use radio::RadioBytes;
 use radio::RadioCommand;
+use radio::RadioRead;
 use text::ROOM;
 use text::Text;
 use text::front;
@@ -101,12 +102,19 @@ fn put_command(command: RadioCommand) -> Text {
     }
 }
 
-// A row as 01's rule has it: the command, and the b and c that the writer gives for it.
+// The row of four bytes: the command that they are read as, b and c. Bytes that are refused have a row that no listing prints.
+fn put_read(code: [u8; 4]) -> Text {
+    match radio::read(&code) {
+        RadioRead::Command(k) => put_bits(put_bits(put_command(k), code[0]), code[2]),
+        RadioRead::Refused(_) => put_word(put_house(16), b"REFUSED"),
+    }
+}
+
+// A row as 01's rule has it: the bytes that the writer gives for a command, read back.
 fn put_row(command: RadioCommand) -> Text {
-    let row = put_command(command);
     match radio::write(command) {
-        RadioBytes::Bytes(b, _, c, _) => put_bits(put_bits(row, b), c),
-        RadioBytes::Refused(_) => row,
+        RadioBytes::Bytes(b, x, c, y) => put_read([b, x, c, y]),
+        RadioBytes::Refused(_) => put_word(put_house(16), b"REFUSED"),
     }
 }
 

@@ -1,0 +1,214 @@
+// What a turned bit does: of each bit of b and of c, all that the 512 codes for on and off are read as when this bit and the same bit of the
+// complement are turned; then the same of a bit that is turned alone. docs/RADIO.md shows the table.
+use libc::STDOUT_FILENO;
+use radio::RadioBytes;
+use radio::RadioCommand;
+use radio::RadioRead;
+use radio::read;
+use radio::write;
+ghost use Prim.Native.Nat.{_<_, _≤_};
+
+const CODES: usize = 512;
+
+// Outcomes, each a bit of a set. A unit that has moved by a single weight is that weight: 1, 2, 4 or 8.
+const HOUSE: u16 = 16;
+
+const SWITCHED: u16 = 32;
+
+const BRIGHT: u16 = 64;
+
+const DIM: u16 = 128;
+
+const COMPLEMENT: u16 = 256;
+
+const CODE: u16 = 512;
+
+const OTHER: u16 = 1024;
+
+// The on or off of a row: unit after unit, house after house.
+fn switch_at(row: usize) -> RadioCommand
+    requires { ⌜ row < 512 ⌝ }
+{
+    let house = (row / 32) as u8;
+    let unit = (row / 2 % 16) as u8;
+    if row % 2 == 0 {
+        RadioCommand::On {
+            house: house,
+            unit: unit,
+        }
+    } else {
+        RadioCommand::Off {
+            house: house,
+            unit: unit,
+        }
+    }
+}
+
+// The four bytes of a command.
+fn bytes_of(command: RadioCommand) -> [u8; 4] {
+    match write(command) {
+        RadioBytes::Bytes(b, x, c, y) => [b, x, c, y],
+        RadioBytes::Refused(_) => [0, 0, 0, 0],
+    }
+}
+
+// Four bytes with bits of one of them turned.
+fn turned(code: [u8; 4], at: usize, mask: u8) -> [u8; 4]
+    requires { ⌜ at < 4 ⌝ }
+{
+    let mut t = code;
+    t[at] = t[at] ^ mask;
+    t
+}
+
+// A command in numbers: 0 on, 1 off, 2 bright, 3 dim; its house; its unit, 0 where it has none.
+struct Numbers {
+    kind: u8,
+    house: u8,
+    unit: u8,
+}
+
+fn numbers_of(command: RadioCommand) -> Numbers {
+    match command {
+        RadioCommand::On { house, unit } => Numbers {
+            kind: 0,
+            house: house,
+            unit: unit,
+        },
+        RadioCommand::Off { house, unit } => Numbers {
+            kind: 1,
+            house: house,
+            unit: unit,
+        },
+        RadioCommand::Bright { house } => Numbers {
+            kind: 2,
+            house: house,
+            unit: 0,
+        },
+        RadioCommand::Dim { house } => Numbers {
+            kind: 3,
+            house: house,
+            unit: 0,
+        },
+    }
+}
+
+// By which single weight a unit has moved.
+fn moved(was: u8, is: u8) -> u16 {
+    match was ^ is {
+        1 => 1,
+        2 => 2,
+        4 => 4,
+        8 => 8,
+        _ => OTHER,
+    }
+}
+
+// What a command has become: it differs in one thing, or is bright or dim of the same house.
+fn beside(was: Numbers, is: Numbers) -> u16 {
+    let same_house = is.house == was.house;
+    let same_unit = is.unit == was.unit;
+    if is.kind == was.kind {
+        if same_house {
+            return moved(was.unit, is.unit);
+        }
+        return if same_unit { HOUSE } else { OTHER };
+    }
+    if !same_house {
+        return OTHER;
+    }
+    let kind = is.kind;
+    match kind {
+        2 => BRIGHT,
+        3 => DIM,
+        _ => if same_unit { SWITCHED } else { OTHER },
+    }
+}
+
+fn outcome(was: RadioCommand, code: [u8; 4]) -> u16 {
+    match read(&code) {
+        RadioRead::Command(k) => beside(numbers_of(was), numbers_of(k)),
+        RadioRead::Refused(why) => match ground::refusal_number(why) {
+            13 => COMPLEMENT,
+            14 => CODE,
+            _ => OTHER,
+        },
+    }
+}
+
+// All outcomes of the 512 codes, with bits of two of the four bytes turned.
+fn outcomes(first: usize, mask: u8, second: usize, other: u8) -> u16
+    requires { ⌜ (first < 4) × (second < 4) ⌝ }
+{
+    let mut set = 0;
+    let mut row = 0;
+    while row < CODES {
+        let was = switch_at(row);
+        let code = turned(turned(bytes_of(was), first, mask), second, other);
+        set = set | outcome(was, code);
+        row += 1;
+    }
+    set
+}
+
+fn print_one(set: u16, outcome: u16, words: &[u8]) {
+    if set & outcome != 0 {
+        io::write_all(STDOUT_FILENO, b"\t");
+        io::write_all(STDOUT_FILENO, words);
+    }
+}
+
+fn print_set(set: u16) {
+    print_one(set, 8, b"unit moved by 8");
+    print_one(set, 4, b"unit moved by 4");
+    print_one(set, 2, b"unit moved by 2");
+    print_one(set, 1, b"unit moved by 1");
+    print_one(set, HOUSE, b"another house");
+    print_one(set, SWITCHED, b"off for on, on for off");
+    print_one(set, BRIGHT, b"bright");
+    print_one(set, DIM, b"dim");
+    print_one(set, COMPLEMENT, b"refused 13");
+    print_one(set, CODE, b"refused 14");
+    print_one(set, OTHER, b"something else");
+    io::write_all(STDOUT_FILENO, b"\n");
+}
+
+// The line of a bit of b or c: b is byte 0 and c byte 2, each followed by its complement.
+fn print_bit(name: &[u8], at: usize, bit: u8)
+    requires { ⌜ (at ≤ 2) × (bit < 8) ⌝ }
+{
+    io::write_all(STDOUT_FILENO, name);
+    io::write_all(STDOUT_FILENO, b"'s bit ");
+    io::print_decimal(STDOUT_FILENO, bit as u64);
+    let mask = 1 << bit;
+    print_set(outcomes(at, mask, at + 1, mask));
+}
+
+// The lines of a byte, the highest bit first.
+fn print_byte(name: &[u8], at: usize)
+    requires { ⌜ at ≤ 2 ⌝ }
+{
+    let mut bit: u8 = 8;
+    while bit > 0 {
+        bit -= 1;
+        print_bit(name, at, bit);
+    }
+}
+
+// All outcomes where one bit of the 32 is turned alone.
+fn print_alone() {
+    let mut set = 0;
+    let mut place: usize = 0;
+    while place < 32 {
+        set = set | outcomes(place / 8, 1 << (place % 8), 0, 0);
+        place += 1;
+    }
+    io::write_all(STDOUT_FILENO, b"any bit alone");
+    print_set(set);
+}
+
+fn main() {
+    print_byte(b"b", 0);
+    print_byte(b"c", 2);
+    print_alone();
+}
