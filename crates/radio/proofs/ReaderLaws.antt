@@ -4,20 +4,25 @@
 --     code-again                                       where both are right, b and c make the code again
 --     bits-of-switch, bits-of-step                     what the b and c of a code are, where c is below 128 and where it is not
 --     on-named, off-named, bright-named, dim-named     the command of such b and c: its b and c are these
---     of-switch, bits-left                             what the test whether b and c are those of an on or off says of them
---     switch-told, step-told                           that test, and the one of what is left, by the code's own
+--     switch-told, step-told                           the code's tests whether b and c are those of an on or off, or of a bright or dim
+--     of-switch, of-step                               what each of these says of b and c
+--     answered, unanswered                             what the reader answers for them
 use mathlib.Core.Path.{_≡_, refl, sym, ap, _∙_}
 use mathlib.Core.Bool.{Bool, true, false, not, _&&_, _||_, and-eq-true-iff, true≢false}
 use mathlib.Core.List.{List, [], _∷_}
 use mathlib.Core.Logic.{_⊎_, inl, inr, ⊎-elim}
 use Prim.Native.Nat.{ℕ, _+_, _-_, _*_, _/_, _%_, _<_}
 use native.Mathlib.Omega.{arith}
-use borrow.Author.Tests.{eqb-true, eqb-false, ltb-true, ltb-false, not-true, not-false, le-leb}
+use borrow.Author.Tests.{eqb-true, eqb-false, ne-eqb, leb-true, leb-false, ltb-true, ltb-false, not-true, not-false, le-leb}
 use lib.Bits.{bitAnd, and-step, and-high}
 use lib.Dec.{eqb, leb, ltb}
 use lib.ListN.{length, getD}
+use Rattle.ground.specs.Refusals.{judged}
+use Rattle.ground.specs.declared.Refusal.the-variants as refusal
 use Rattle.ground.proofs.Choices.{both}
 use Rattle.radio.specs.Codes.{houseOfNibble, houseInB, unitInB, unitInC, unitFrom, byteB, byteC, codeFrom, commandOk, among, commandOf}
+use Rattle.radio.specs.Answers.{namedAnswer}
+use Rattle.radio.specs.declared.RadioRead.the-variants as read
 use Rattle.radio.specs.declared.RadioCommand.{RadioCommand}
 use Rattle.radio.specs.declared.RadioCommand.the-variants.{On, Off, Bright, Dim}
 use Rattle.radio.proofs.CodeLaws.{house-read-back, house-of-nibble-below, bit-below, Bits, bits, in-c, digits}
@@ -167,18 +172,6 @@ module _ (b c : ℕ) (small : b < 256) where
 
 -- ---- the tests of b and c
 
-module _ (b c : ℕ) where
-  pub of-switch : (ltb c 128 && among (codeFrom b c)) ≡ true → (c < 128) × (among (codeFrom b c) ≡ true)
-  of-switch t = let p = and-eq-true-iff (ltb c 128) (among (codeFrom b c)) .0 t in (ltb-true c 128 (p .0), p .1)
-
-  -- what is a code, and neither on nor off, is bright or dim
-  pub bits-left : (ltb c 128 && among (codeFrom b c)) ≡ false → among (codeFrom b c) ≡ true → (b % 16 ≡ 0) × ((c ≡ 136) ⊎ (c ≡ 152))
-  bits-left left one = bits-of-step b c one (go (ltb c 128) refl)
-    where
-      go : (x : Bool) → ltb c 128 ≡ x → 127 < c
-      go true low = absurd (true≢false (sym (both low one) ∙ left))
-      go false low = omega (arith, ltb-false c 128 low)
-
 not-one : (t : Bool) → (t ≡ true → ⊥) → t ≡ false
 not-one true never = absurd (never refl)
 not-one false never = refl
@@ -205,12 +198,45 @@ module _ (b c : ℕ) (small : b < 256) where
       go true low = switch-test (ltb-true c 128 low)
       go false low = refl
 
-  pub step-told : (ltb c 128 && among (codeFrom b c)) ≡ false → (eqb (b % 16) 0 && (eqb c 136 || eqb c 152)) ≡ among (codeFrom b c)
-  step-told left = go (eqb (b % 16) 0) (eqb c 136) (eqb c 152) refl refl refl
+  step-test : 127 < c → (eqb (b % 16) 0 && (eqb c 136 || eqb c 152)) ≡ among (codeFrom b c)
+  step-test high = go (eqb (b % 16) 0) (eqb c 136) (eqb c 152) refl refl refl
     where
       go : (x y z : Bool) → eqb (b % 16) 0 ≡ x → eqb c 136 ≡ y → eqb c 152 ≡ z → (x && (y || z)) ≡ among (codeFrom b c)
       go true true z p q r = sym (bright-named b c small (eqb-true (b % 16) 0 p) (eqb-true c 136 q) .0)
       go true false true p q r = sym (dim-named b c small (eqb-true (b % 16) 0 p) (eqb-true c 152 r) .0)
       go true false false p q r =
-          sym (not-one (among (codeFrom b c)) (λ one. ⊎-elim (eqb-false c 136 q) (eqb-false c 152 r) (bits-left b c left one .1)))
-      go false y z p q r = sym (not-one (among (codeFrom b c)) (λ one. eqb-false (b % 16) 0 p (bits-left b c left one .0)))
+          sym (not-one (among (codeFrom b c)) (λ one. ⊎-elim (eqb-false c 136 q) (eqb-false c 152 r) (bits-of-step b c one high .1)))
+      go false y z p q r = sym (not-one (among (codeFrom b c)) (λ one. eqb-false (b % 16) 0 p (bits-of-step b c one high .0)))
+
+  pub step-told : (eqb (b % 16) 0 && (eqb c 136 || eqb c 152)) ≡ (leb 128 c && among (codeFrom b c))
+  step-told = go (leb 128 c) refl
+    where
+      go : (x : Bool) → leb 128 c ≡ x → (eqb (b % 16) 0 && (eqb c 136 || eqb c 152)) ≡ (x && among (codeFrom b c))
+      go true high = step-test (leb-true 128 c high)
+      go false high = low (eqb (b % 16) 0)
+        where
+          low : (t : Bool) → (t && (eqb c 136 || eqb c 152)) ≡ false
+          low true = simp (ne-eqb c 136 (λ e. omega (arith, leb-false 128 c high)), ne-eqb c 152 (λ e. omega (arith, leb-false 128 c high)))
+          low false = refl
+
+-- ---- what the reader answers for b and c
+
+module _ (b c : ℕ) where
+  pub of-switch : (ltb c 128 && among (codeFrom b c)) ≡ true → (c < 128) × (among (codeFrom b c) ≡ true)
+  of-switch t = let p = and-eq-true-iff (ltb c 128) (among (codeFrom b c)) .0 t in (ltb-true c 128 (p .0), p .1)
+
+  pub of-step : (leb 128 c && among (codeFrom b c)) ≡ true → (b % 16 ≡ 0) × ((c ≡ 136) ⊎ (c ≡ 152))
+  of-step t = let p = and-eq-true-iff (leb 128 c) (among (codeFrom b c)) .0 t in bits-of-step b c (p .1) (leb-true 128 c (p .0))
+
+  pub answered : (k : RadioCommand) → (among (codeFrom b c) ≡ true) × (commandOf (codeFrom b c) ≡ k) → read.Command k ≡ namedAnswer (codeFrom b c)
+  unfolding judged
+  answered k it = simp (it .0, it .1)
+
+  pub unanswered : (ltb c 128 && among (codeFrom b c)) ≡ false → (leb 128 c && among (codeFrom b c)) ≡ false
+      → read.Refused refusal.Code ≡ namedAnswer (codeFrom b c)
+  unfolding judged
+  unanswered low high = simp (not-one (among (codeFrom b c)) (λ one. go (ltb c 128) refl one))
+    where
+      go : (x : Bool) → ltb c 128 ≡ x → among (codeFrom b c) ≡ true → ⊥
+      go true t one = true≢false (sym (both t one) ∙ low)
+      go false t one = true≢false (sym (both (le-leb 128 c (ltb-false c 128 t)) one) ∙ high)

@@ -1,9 +1,11 @@
--- A bit turned: by an exclusive or, which goes through b and c bit by bit whatever the unit is moved by; a byte's complement has every bit turned.
+-- Why a turned unit bit moves the unit by its weight: turning a bit is an exclusive or, and an exclusive or of units goes through b and c bit
+-- by bit, whatever the unit is moved by. A byte's complement has every bit of the byte turned, so its own bit turns with it.
 --
---     turned-xor                  a turned bit as an exclusive or
---     complement-turned           the same bit turned in the complement
---     b-xor, c-xor                b and c of a unit that is moved
---     turned-code                 a code with one of the unit's bits turned
+--     xor-bit, turned-xor                a turned bit as an exclusive or
+--     digit-xor, complement-turned       each bit of an exclusive or; the same bit turned in the complement
+--     shift, above, b-xor, c-xor         b and c of a unit that is moved
+--     Alone, alone                       of each of the four bits: a unit that is its weight alone has this bit alone
+--     moved-below, turned-code           the unit that is moved; a code with one of the unit's bits turned
 use mathlib.Core.Path.{_≡_, refl, sym, ap, ap₂, subst, _∙_}
 use mathlib.Core.Bool.{Bool, true, _&&_, and-eq-true-iff}
 use mathlib.Core.List.{List, [], _∷_, List·Memᴰ}
@@ -49,7 +51,7 @@ digit-xor k m n = ap (λ (x : ℕ). x % 2) (xor-shr m n k) ∙ xor-mod (m / 2 ^ 
 all-turned : (n : ℕ) → n < 256 → 255 - n ≡ bitXor n 255
 all-turned n l = let sum = xor-add-and n 255 in let whole = and-mask n 8 in omega arith
 
-pub complement-turned : (k n : ℕ) → n < 256 → 255 / 2 ^ k % 2 ≡ 1 → bitXor (255 - n) (2 ^ k) ≡ 255 - bitXor n (2 ^ k)
+complement-turned : (k n : ℕ) → n < 256 → 255 / 2 ^ k % 2 ≡ 1 → bitXor (255 - n) (2 ^ k) ≡ 255 - bitXor n (2 ^ k)
 complement-turned k n l set =
     go (n / 2 ^ k % 2) (bit-below (n / 2 ^ k)) (xor-bit k n)
     (subst (λ (d : ℕ). bitXor (255 - n) (2 ^ k) + d * 2 ^ k * 2 ≡ 255 - n + 2 ^ k) other (xor-bit k (255 - n)))
@@ -79,7 +81,7 @@ above k a r s hr hs =
     ∙ xor-block k a 0 r s hr hs
     ∙ ap (λ (x : ℕ). x * 2 ^ k + bitXor r s) (xor-zero-r a)
 
-pub b-xor : (n u v : ℕ) → bitXor (n * 16 + unitInB u) (unitInB v) ≡ n * 16 + unitInB (bitXor u v)
+b-xor : (n u v : ℕ) → bitXor (n * 16 + unitInB u) (unitInB v) ≡ n * 16 + unitInB (bitXor u v)
 b-xor n u v =
     let eight = digit-xor 3 u v in
     let one : unitInB u ≡ u / 8 % 2 * 4 = omega arith in
@@ -94,7 +96,7 @@ low f o t o′ t′ ho ht ho′ ht′ =
     above 2 f (o * 2 + t) (o′ * 2 + t′) (omega arith) (omega arith)
     ∙ ap (λ (x : ℕ). f * 4 + x) (xor-block 1 o o′ t t′ ht ht′)
 
-pub c-xor : (f u v : ℕ) → f < 2 → bitXor (unitInC u + f * 32) (unitInC v) ≡ unitInC (bitXor u v) + f * 32
+c-xor : (f u v : ℕ) → f < 2 → bitXor (unitInC u + f * 32) (unitInC v) ≡ unitInC (bitXor u v) + f * 32
 c-xor f u v hf =
     let four = digit-xor 2 u v in
     let two = digit-xor 1 u v in

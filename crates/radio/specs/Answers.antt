@@ -41,13 +41,19 @@ writeReport (bytes.Refused why) = refuses why
 abbrev pub complementary : List ℕ → Bool
 complementary code = eqb (getD code 1 0) (255 - getD code 0 0) && eqb (getD code 3 0) (255 - getD code 2 0)
 
+-- 14: "not among the 544", of four bytes whose pairs are complementary
+abbrev pub namedCauses : List ℕ → List Cause
+namedCauses code = unless (among code) refusal.Code ∷ []
+
+abbrev pub namedAnswer : List ℕ → RadioRead
+namedAnswer code = judged (namedCauses code) (read.Command (commandOf code)) read.Refused
+
 -- 12, 13, 14: "not 4 bytes; a pair not complementary; not among the 544"
 abbrev pub readCauses : List ℕ → List Cause
 readCauses code =
     unless (eqb (length code) 4) refusal.RfLength
     ∷ unless (complementary code) refusal.Complement
-    ∷ unless (among code) refusal.Code
-    ∷ []
+    ∷ namedCauses code
 
 unfoldable pub readAnswer : List ℕ → RadioRead
 readAnswer code = judged (readCauses code) (read.Command (commandOf code)) read.Refused

@@ -6,11 +6,11 @@ ghost use mathlib.Core.Path.{_≡_};
 ghost use mathlib.Core.Bool.{true, _&&_};
 ghost use mathlib.Core.List.{[], _∷_};
 ghost use Prim.Native.Nat.{_+_, _/_, _<_};
-ghost use lib.Dec.{ltb};
+ghost use lib.Dec.{leb, ltb};
 ghost use Rattle.ground.specs.Refusals.{judged, reports, refuses};
 ghost use Rattle.radio.specs.Codes.{nibbleOf, houseOfNibble, commandOk, houseInB, bitAt, unitInB, unitInC, unitFrom, byteB, byteC};
 ghost use Rattle.radio.specs.Codes.{codeFrom, fourBytes, among, commandOf};
-ghost use Rattle.radio.specs.Answers.{writeCauses, writeAnswer, writeReport, readCauses, readAnswer, readReport};
+ghost use Rattle.radio.specs.Answers.{writeCauses, writeAnswer, writeReport, namedAnswer, readCauses, readAnswer, readReport};
 ghost use Rattle.radio.specs.Answers.{addressThen, messagesMeant, messagesOf, messagesCauses, messagesAnswer, messagesReport};
 
 // What a transmitter sends. Houses A to P and units 1 to 16 are the numbers 0 to 15; a command with a house or a unit above
@@ -132,13 +132,10 @@ fn is_switch(b: u8, c: u8) -> bool
     (c < 128) & (b & 11 == 0) & (c % 8 == 0)
 }
 
-// Whether b and c are those of one of the 544 codes.
-fn is_code(b: u8, c: u8) -> bool
-    ensures { λ r. ⌜ r ≡ among (codeFrom b c) ⌝ }
+// Whether b and c are those of a bright or dim.
+fn is_step(b: u8, c: u8) -> bool
+    ensures { λ r. ⌜ r ≡ (leb 128 c && among (codeFrom b c)) ⌝ }
 {
-    if is_switch(b, c) {
-        return true;
-    }
     (b % 16 == 0) & ((c == 136) | (c == 152))
 }
 
@@ -180,20 +177,22 @@ fn switch_of(house: u8, b: u8, c: u8) -> RadioCommand
     }
 }
 
-// The command that b and c name. One call of house_of_nibble for both kinds keeps read small enough to be inlined.
-fn command_of(b: u8, c: u8) -> RadioCommand
-    requires { ⌜ among (codeFrom b c) ≡ true ⌝ }
-    ensures { λ r. ⌜ r ≡ commandOf (codeFrom b c) ⌝ }
+// The command that b and c name. Refuses b and c that no command has. One call of house_of_nibble for all of them keeps read small
+// enough to be inlined.
+fn command_of(b: u8, c: u8) -> RadioRead
+    ensures { λ r. ⌜ r ≡ namedAnswer (codeFrom b c) ⌝ }
 {
     let house = house_of_nibble(b / 16);
     if is_switch(b, c) {
-        return switch_of(house, b, c);
+        return RadioRead::Command(switch_of(house, b, c));
+    }
+    if !is_step(b, c) {
+        return RadioRead::Refused(Refusal::Code);
     }
     if c == 136 {
-        RadioCommand::Bright { house: house }
-    } else {
-        RadioCommand::Dim { house: house }
+        return RadioRead::Command(RadioCommand::Bright { house: house });
     }
+    RadioRead::Command(RadioCommand::Dim { house: house })
 }
 
 // The command that four bytes name. Refuses what are not four bytes, then pairs that are not complementary, then bytes that no
@@ -210,10 +209,7 @@ pub fn read(code: &[u8]) -> RadioRead
     if (code[1] != 255 - b) | (code[3] != 255 - c) {
         return RadioRead::Refused(Refusal::Complement);
     }
-    if !is_code(b, c) {
-        return RadioRead::Refused(Refusal::Code);
-    }
-    RadioRead::Command(command_of(b, c))
+    command_of(b, c)
 }
 
 // An address, then a function.

@@ -25,21 +25,34 @@ const CODE: u16 = 512;
 
 const OTHER: u16 = 1024;
 
+// An on, or where off is 1 an off.
+struct Switch {
+    house: u8,
+    unit: u8,
+    off: u8,
+}
+
 // The on or off of a row: unit after unit, house after house.
-fn switch_at(row: usize) -> RadioCommand
+fn switch_at(row: usize) -> Switch
     requires { ⌜ row < 512 ⌝ }
 {
-    let house = (row / 32) as u8;
-    let unit = (row / 2 % 16) as u8;
-    if row % 2 == 0 {
+    Switch {
+        house: (row / 32) as u8,
+        unit: (row / 2 % 16) as u8,
+        off: (row % 2) as u8,
+    }
+}
+
+fn command_of(s: Switch) -> RadioCommand {
+    if s.off == 0 {
         RadioCommand::On {
-            house: house,
-            unit: unit,
+            house: s.house,
+            unit: s.unit,
         }
     } else {
         RadioCommand::Off {
-            house: house,
-            unit: unit,
+            house: s.house,
+            unit: s.unit,
         }
     }
 }
@@ -61,38 +74,6 @@ fn turned(code: [u8; 4], at: usize, mask: u8) -> [u8; 4]
     t
 }
 
-// A command in numbers: 0 on, 1 off, 2 bright, 3 dim; its house; its unit, 0 where it has none.
-struct Numbers {
-    kind: u8,
-    house: u8,
-    unit: u8,
-}
-
-fn numbers_of(command: RadioCommand) -> Numbers {
-    match command {
-        RadioCommand::On { house, unit } => Numbers {
-            kind: 0,
-            house: house,
-            unit: unit,
-        },
-        RadioCommand::Off { house, unit } => Numbers {
-            kind: 1,
-            house: house,
-            unit: unit,
-        },
-        RadioCommand::Bright { house } => Numbers {
-            kind: 2,
-            house: house,
-            unit: 0,
-        },
-        RadioCommand::Dim { house } => Numbers {
-            kind: 3,
-            house: house,
-            unit: 0,
-        },
-    }
-}
-
 // By which single weight a unit has moved.
 fn moved(was: u8, is: u8) -> u16 {
     match was ^ is {
@@ -104,30 +85,40 @@ fn moved(was: u8, is: u8) -> u16 {
     }
 }
 
-// What a command has become: it differs in one thing, or is bright or dim of the same house.
-fn beside(was: Numbers, is: Numbers) -> u16 {
-    let same_house = is.house == was.house;
-    let same_unit = is.unit == was.unit;
-    if is.kind == was.kind {
-        if same_house {
-            return moved(was.unit, is.unit);
-        }
-        return if same_unit { HOUSE } else { OTHER };
+// What an on or off has become that is read as another: it differs in one thing.
+fn beside(was: Switch, house: u8, unit: u8, off: u8) -> u16 {
+    let same_house = house == was.house;
+    let same_unit = unit == was.unit;
+    if off != was.off {
+        return if same_house & same_unit {
+            SWITCHED
+        } else {
+            OTHER
+        };
     }
-    if !same_house {
-        return OTHER;
+    if same_house {
+        return moved(was.unit, unit);
     }
-    let kind = is.kind;
-    match kind {
-        2 => BRIGHT,
-        3 => DIM,
-        _ => if same_unit { SWITCHED } else { OTHER },
+    if same_unit { HOUSE } else { OTHER }
+}
+
+// Bright or dim of the same house.
+fn stepped(was: Switch, house: u8, step: u16) -> u16 {
+    if house == was.house { step } else { OTHER }
+}
+
+fn named(was: Switch, command: RadioCommand) -> u16 {
+    match command {
+        RadioCommand::On { house, unit } => beside(was, house, unit, 0),
+        RadioCommand::Off { house, unit } => beside(was, house, unit, 1),
+        RadioCommand::Bright { house } => stepped(was, house, BRIGHT),
+        RadioCommand::Dim { house } => stepped(was, house, DIM),
     }
 }
 
-fn outcome(was: RadioCommand, code: [u8; 4]) -> u16 {
+fn outcome(was: Switch, code: [u8; 4]) -> u16 {
     match read(&code) {
-        RadioRead::Command(k) => beside(numbers_of(was), numbers_of(k)),
+        RadioRead::Command(command) => named(was, command),
         RadioRead::Refused(why) => match ground::refusal_number(why) {
             13 => COMPLEMENT,
             14 => CODE,
@@ -144,7 +135,11 @@ fn outcomes(first: usize, mask: u8, second: usize, other: u8) -> u16
     let mut row = 0;
     while row < CODES {
         let was = switch_at(row);
-        let code = turned(turned(bytes_of(was), first, mask), second, other);
+        let code = turned(
+            turned(bytes_of(command_of(was)), first, mask),
+            second,
+            other,
+        );
         set = set | outcome(was, code);
         row += 1;
     }

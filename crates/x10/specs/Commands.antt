@@ -8,6 +8,7 @@ use Rattle.ground.specs.Choice.{pick}
 use Rattle.radio.specs.Codes.{commandOk}
 use Rattle.radio.specs.declared.RadioCommand.{RadioCommand}
 use Rattle.radio.specs.declared.RadioCommand.the-variants.{On, Off, Bright, Dim}
+use Rattle.x10.specs.declared.commands.Three.{Three}
 
 -- the command that three numbers say; the unit is not looked at for bright and dim. A number above 3 makes none, and is handed on as a
 -- command of house 16: the writer refuses it by 2, as any house or unit above 15, in its own order.
@@ -29,3 +30,7 @@ commandBytes (On h u) = 0 ∷ h ∷ u ∷ []
 commandBytes (Off h u) = 1 ∷ h ∷ u ∷ []
 commandBytes (Bright h) = 2 ∷ h ∷ 0 ∷ []
 commandBytes (Dim h) = 3 ∷ h ∷ 0 ∷ []
+
+-- three numbers in their order
+abbrev pub threeListed : Three → List ℕ
+threeListed t = t .command ∷ t .house ∷ t .unit ∷ []

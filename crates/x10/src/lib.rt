@@ -1,6 +1,7 @@
 // The routines that programs in C and Rust link: over numbers and lent bytes, each with one number as its answer (wire's `pack`). Every
 // number and every slice is taken; a refusal changes nothing that was lent.
 use crate::commands::command_from;
+use crate::commands::three_of;
 use burst::write_burst;
 use ground::CountAnswer;
 use ground::Refusal;
@@ -21,7 +22,6 @@ use wire::MessageRead;
 use wire::message_from;
 use wire::pack;
 ghost use mathlib.Core.Path.{_≡_};
-ghost use mathlib.Core.List.{[], _∷_};
 ghost use Prim.Native.Nat.{_≤_};
 ghost use lib.ListN.{length};
 ghost use lib.Seq.{sets};
@@ -127,28 +127,15 @@ pub extern "C" fn x10_radio_write(command: u8, house: u8, unit: u8, out: &mut [u
     pack(write_code(command_from(command, house, unit), out))
 }
 
-// Puts three numbers at the front of a buffer.
-fn put_three(out: &mut [u8], command: u8, house: u8, unit: u8)
-    requires { ⌜ 3 ≤ length (now out) ⌝ }
-    ensures { λ _. ⌜ now (out .exit) ≡ sets (now (out .entry)) 0 (command ∷ house ∷ unit ∷ []) ⌝ }
-{
-    out[0] = command;
-    out[1] = house;
-    out[2] = unit;
-}
-
-// Puts the three numbers of a radio command at the front of a buffer: 0 on, 1 off, 2 bright, 3 dim; its house; its unit, 0 where it has
-// none. Stores in each arm, and not three numbers first: the compiler then asks only once which command it is.
+// Puts the three numbers of a radio command at the front of a buffer.
 fn put_command(out: &mut [u8], k: RadioCommand)
     requires { ⌜ 3 ≤ length (now out) ⌝ }
     ensures { λ _. ⌜ now (out .exit) ≡ sets (now (out .entry)) 0 (commandBytes k) ⌝ }
 {
-    match k {
-        RadioCommand::On { house, unit } => put_three(out, 0, house, unit),
-        RadioCommand::Off { house, unit } => put_three(out, 1, house, unit),
-        RadioCommand::Bright { house } => put_three(out, 2, house, 0),
-        RadioCommand::Dim { house } => put_three(out, 3, house, 0),
-    }
+    let three = three_of(k);
+    out[0] = three.command;
+    out[1] = three.house;
+    out[2] = three.unit;
 }
 
 // Writes the three numbers of the radio command that four bytes name to the front of a lent buffer; the count is 3. Refused 9, 12,

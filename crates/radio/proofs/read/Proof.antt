@@ -1,12 +1,11 @@
 -- `read` meets its contract: its tests are those of `readCauses`, in their order, since the b and c of four bytes whose pairs are
 -- complementary make the code again. The bytes of a slice are below 256, so the complements do not go below 0.
-use mathlib.Core.Path.{sym, ap, _∙_}
+use mathlib.Core.Path.{_≡_, ap, _∙_}
 use native.Mathlib.Omega.{arith}
 use borrow.Author.Needs.{needs}
-use Rattle.ground.proofs.Causes.{ladder, bad, fine}
-use Rattle.radio.specs.Codes.{among, commandOf}
-use Rattle.radio.specs.Answers.{readAnswer, readReport}
-use Rattle.radio.specs.declared.RadioRead.the-variants.{Command}
+use Rattle.ground.proofs.Causes.{ladder}
+use Rattle.radio.specs.Answers.{namedAnswer, readAnswer, readReport}
+use Rattle.radio.proofs.AnswerLaws.{read-reported}
 use Rattle.radio.proofs.ReaderLaws.{both-hold, one-fails, code-again}
 use Rattle.radio.proofs.read.Statement.{statement}
 use Rattle.radio.proofs.read.Tie as tie
@@ -37,29 +36,17 @@ returns-2 : tie.Need-returns-2
 unfolding readAnswer
 returns-2 c = search (ladder, one-fails)
 
-is-code-requires : tie.Need-is-code-requires
-is-code-requires c κs = search needs
+command-of-requires : tie.Need-command-of-requires
+command-of-requires c κs = search needs
 
 returns-3 : tie.Need-returns-3
 unfolding readAnswer
 returns-3 c =
-    let four = c .before .before .before .before .before .before .before in
-    let again = code-again (four .before .before .args .code .now) (four .if1 .left) (c .before .before .if2 .left) in
-    let other = sym (ap among again) ∙ bad (c .before .is-code .ensures) (c .if3 .taken) in
-    search (ladder, both-hold)
-
-command-of-requires : tie.Need-command-of-requires
-command-of-requires c κs = fine (c .before .is-code .ensures) (c .if3 .left)
-
-returns-4 : tie.Need-returns-4
-unfolding readAnswer
-returns-4 c =
-    let four = c .before .before .before .before .before .before .before .before in
-    let again = code-again (four .before .before .args .code .now) (four .if1 .left) (c .before .before .before .if2 .left) in
-    let one = sym (ap among again) ∙ fine (c .before .before .is-code .ensures) (c .before .if3 .left) in
-    let named = ap Command (c .command-of .ensures ∙ ap commandOf again) in
-    let reported = ap readReport named in
-    search (ladder, both-hold)
+    let four = c .before .before .before .before .before .before in
+    let code = four .before .before .args .code .now in
+    let named = c .command-of .ensures ∙ ap namedAnswer (code-again code (four .if1 .left) (c .before .if2 .left)) in
+    let answer : c .command-of .result ≡ readAnswer code = search (ladder, both-hold) in
+    (answer, ap readReport answer ∙ read-reported code)
 
 pub read-spec : {M : Type 1} → statement M
 read-spec =
@@ -73,7 +60,5 @@ read-spec =
     shared-slice-read-if2-2
     sub-if2-2
     returns-2
-    is-code-requires
-    returns-3
     command-of-requires
-    returns-4)
+    returns-3)

@@ -16,6 +16,9 @@ loop-holds c = search needs
 switch-at-requires : tie.Need-switch-at-requires Inv-loop μ-loop
 switch-at-requires c κs = search needs
 
+command-of-requires : tie.Need-command-of-requires Inv-loop μ-loop
+command-of-requires c κs = search needs
+
 bytes-of-requires : tie.Need-bytes-of-requires Inv-loop μ-loop
 bytes-of-requires c κs = search needs
 
@@ -48,6 +51,7 @@ outcomes-spec =
     μ-loop
     loop-holds
     switch-at-requires
+    command-of-requires
     bytes-of-requires
     turned-requires
     turned-requires-2
