@@ -4,3 +4,4 @@ pub mod ReaderLaws
 pub mod AnswerLaws
 pub mod TurnedLaws
 pub mod Theorems
+pub mod UnitBits

@@ -2,11 +2,10 @@
 --
 --     both-hold, one-fails                             what the code's test of both complements says of the definition's
 --     code-again                                       where both are right, b and c make the code again
---     bits-of-switch, bits-of-step                     what the b and c of a code are, where c is below 128 and where it is not
+--     of-switch, of-step                               what the b and c of a code for on or off are, and of one for bright or dim
 --     on-named, off-named, bright-named, dim-named     the command of such b and c: its b and c are these
---     switch-told, step-told                           the code's tests whether b and c are those of an on or off, or of a bright or dim
---     of-switch, of-step                               what each of these says of b and c
---     answered, unanswered                             what the reader answers for them
+--     switch-told, step-told                           the code's tests whether b and c are those of such a code
+--     answered, unanswered                             what the reader answers for b and c
 use mathlib.Core.Path.{_≡_, refl, sym, ap, _∙_}
 use mathlib.Core.Bool.{Bool, true, false, not, _&&_, _||_, and-eq-true-iff, true≢false}
 use mathlib.Core.List.{List, [], _∷_}
@@ -21,6 +20,7 @@ use Rattle.ground.specs.Refusals.{judged}
 use Rattle.ground.specs.declared.Refusal.the-variants as refusal
 use Rattle.ground.proofs.Choices.{both}
 use Rattle.radio.specs.Codes.{houseOfNibble, houseInB, unitInB, unitInC, unitFrom, byteB, byteC, codeFrom, commandOk, among, commandOf}
+use Rattle.radio.specs.Codes.{isSwitch, switchCode, stepCode}
 use Rattle.radio.specs.Answers.{namedAnswer}
 use Rattle.radio.specs.declared.RadioRead.the-variants as read
 use Rattle.radio.specs.declared.RadioCommand.{RadioCommand}
@@ -128,23 +128,29 @@ module _ (b c : ℕ) where
     bytes-of : (byteB (commandOf (codeFrom b c)) ≡ b) × (byteC (commandOf (codeFrom b c)) ≡ c)
     bytes-of = let same = code-of-named (codeFrom b c) one .1 in (cc, cc)
 
-    pub bits-of-switch : c < 128 → (b % 16 ≡ b / 4 % 2 * 4) × (c % 8 ≡ 0)
-    bits-of-switch l = go (commandOf (codeFrom b c)) (bytes-of .0) (bytes-of .1)
+    bits-of-switch : isSwitch (commandOf (codeFrom b c)) ≡ true → (c < 128) × (b % 16 ≡ b / 4 % 2 * 4) × (c % 8 ≡ 0)
+    bits-of-switch t = go (commandOf (codeFrom b c)) t (bytes-of .0) (bytes-of .1)
       where
-        go : (k : RadioCommand) → byteB k ≡ b → byteC k ≡ c → (b % 16 ≡ b / 4 % 2 * 4) × (c % 8 ≡ 0)
-        go (On h u) eb ec = (omega arith, omega arith)
-        go (Off h u) eb ec = (omega arith, omega arith)
-        go (Bright h) eb ec = absurd (omega arith)
-        go (Dim h) eb ec = absurd (omega arith)
+        go : (k : RadioCommand) → isSwitch k ≡ true → byteB k ≡ b → byteC k ≡ c → (c < 128) × (b % 16 ≡ b / 4 % 2 * 4) × (c % 8 ≡ 0)
+        go (On h u) t eb ec = (omega arith, omega arith, omega arith)
+        go (Off h u) t eb ec = (omega arith, omega arith, omega arith)
+        go (Bright h) t eb ec = absurd (true≢false (sym t))
+        go (Dim h) t eb ec = absurd (true≢false (sym t))
 
-    bits-of-step : 127 < c → (b % 16 ≡ 0) × ((c ≡ 136) ⊎ (c ≡ 152))
-    bits-of-step l = go (commandOf (codeFrom b c)) (bytes-of .0) (bytes-of .1)
+    bits-of-step : isSwitch (commandOf (codeFrom b c)) ≡ false → (b % 16 ≡ 0) × ((c ≡ 136) ⊎ (c ≡ 152))
+    bits-of-step t = go (commandOf (codeFrom b c)) t (bytes-of .0) (bytes-of .1)
       where
-        go : (k : RadioCommand) → byteB k ≡ b → byteC k ≡ c → (b % 16 ≡ 0) × ((c ≡ 136) ⊎ (c ≡ 152))
-        go (On h u) eb ec = absurd (omega arith)
-        go (Off h u) eb ec = absurd (omega arith)
-        go (Bright h) eb ec = (omega arith, inl (sym ec))
-        go (Dim h) eb ec = (omega arith, inr (sym ec))
+        go : (k : RadioCommand) → isSwitch k ≡ false → byteB k ≡ b → byteC k ≡ c → (b % 16 ≡ 0) × ((c ≡ 136) ⊎ (c ≡ 152))
+        go (On h u) t eb ec = absurd (true≢false t)
+        go (Off h u) t eb ec = absurd (true≢false t)
+        go (Bright h) t eb ec = (omega arith, inl (sym ec))
+        go (Dim h) t eb ec = (omega arith, inr (sym ec))
+
+  pub of-switch : switchCode (codeFrom b c) ≡ true → (c < 128) × (b % 16 ≡ b / 4 % 2 * 4) × (c % 8 ≡ 0)
+  of-switch t = let p = and-eq-true-iff (among (codeFrom b c)) _ .0 t in bits-of-switch (p .0) (p .1)
+
+  pub of-step : stepCode (codeFrom b c) ≡ true → (b % 16 ≡ 0) × ((c ≡ 136) ⊎ (c ≡ 152))
+  of-step t = let p = and-eq-true-iff (among (codeFrom b c)) _ .0 t in bits-of-step (p .0) (not-true (isSwitch (commandOf (codeFrom b c))) (p .1))
 
 module _ (b c : ℕ) (small : b < 256) where
   -- the command that b and c name is this one
@@ -177,66 +183,48 @@ not-one true never = absurd (never refl)
 not-one false never = refl
 
 module _ (b c : ℕ) (small : b < 256) where
-  switch-test : c < 128 → (eqb (bitAnd b 11) 0 && eqb (c % 8) 0) ≡ among (codeFrom b c)
-  switch-test low = go (eqb (bitAnd b 11) 0) (eqb (c % 8) 0) (eqb (c / 32 % 2) 0) refl refl refl
+  switch-named : (k : RadioCommand) → Names b c small k → isSwitch k ≡ true → true ≡ switchCode (codeFrom b c)
+  switch-named k it t = sym (both (it .0) (ap isSwitch (it .1) ∙ t))
+
+  step-named : (k : RadioCommand) → Names b c small k → isSwitch k ≡ false → true ≡ stepCode (codeFrom b c)
+  step-named k it t = sym (both (it .0) (ap (λ (x : Bool). not x) (ap isSwitch (it .1) ∙ t)))
+
+  pub switch-told : ((ltb c 128 && eqb (bitAnd b 11) 0) && eqb (c % 8) 0) ≡ switchCode (codeFrom b c)
+  switch-told = go (ltb c 128) (eqb (bitAnd b 11) 0) (eqb (c % 8) 0) (eqb (c / 32 % 2) 0) refl refl refl refl
     where
-      go : (x y on : Bool) → eqb (bitAnd b 11) 0 ≡ x → eqb (c % 8) 0 ≡ y → eqb (c / 32 % 2) 0 ≡ on → (x && y) ≡ among (codeFrom b c)
-      go true true true p q z =
+      go : (w x y on : Bool) → ltb c 128 ≡ w → eqb (bitAnd b 11) 0 ≡ x → eqb (c % 8) 0 ≡ y → eqb (c / 32 % 2) 0 ≡ on
+          → ((w && x) && y) ≡ switchCode (codeFrom b c)
+      go true true true true l p q z =
           let pb = low-clear b (eqb-true (bitAnd b 11) 0 p) in
-          sym (on-named b c small low pb (eqb-true (c % 8) 0 q) (eqb-true (c / 32 % 2) 0 z) .0)
-      go true true false p q z =
+          switch-named _ (on-named b c small (ltb-true c 128 l) pb (eqb-true (c % 8) 0 q) (eqb-true (c / 32 % 2) 0 z)) refl
+      go true true true false l p q z =
           let pb = low-clear b (eqb-true (bitAnd b 11) 0 p) in
-          sym (off-named b c small low pb (eqb-true (c % 8) 0 q) (eqb-false (c / 32 % 2) 0 z) .0)
-      go true false on p q z = sym (not-one (among (codeFrom b c)) (λ one. eqb-false (c % 8) 0 q (bits-of-switch b c one low .1)))
-      go false y on p q z = sym (not-one (among (codeFrom b c)) (λ one. eqb-false (bitAnd b 11) 0 p (low-masked b (bits-of-switch b c one low .0))))
+          switch-named _ (off-named b c small (ltb-true c 128 l) pb (eqb-true (c % 8) 0 q) (eqb-false (c / 32 % 2) 0 z)) refl
+      go true true false on l p q z = sym (not-one _ (λ t. eqb-false (c % 8) 0 q (of-switch b c t .2)))
+      go true false y on l p q z = sym (not-one _ (λ t. eqb-false (bitAnd b 11) 0 p (low-masked b (of-switch b c t .1))))
+      go false x y on l p q z = sym (not-one _ (λ t. let low = of-switch b c t .0 in absurd (omega (arith, ltb-false c 128 l))))
 
-  -- the code's three tests
-  pub switch-told : ((ltb c 128 && eqb (bitAnd b 11) 0) && eqb (c % 8) 0) ≡ (ltb c 128 && among (codeFrom b c))
-  switch-told = go (ltb c 128) refl
+  pub step-told : (eqb (b % 16) 0 && (eqb c 136 || eqb c 152)) ≡ stepCode (codeFrom b c)
+  step-told = go (eqb (b % 16) 0) (eqb c 136) (eqb c 152) refl refl refl
     where
-      go : (x : Bool) → ltb c 128 ≡ x → ((x && eqb (bitAnd b 11) 0) && eqb (c % 8) 0) ≡ (x && among (codeFrom b c))
-      go true low = switch-test (ltb-true c 128 low)
-      go false low = refl
-
-  step-test : 127 < c → (eqb (b % 16) 0 && (eqb c 136 || eqb c 152)) ≡ among (codeFrom b c)
-  step-test high = go (eqb (b % 16) 0) (eqb c 136) (eqb c 152) refl refl refl
-    where
-      go : (x y z : Bool) → eqb (b % 16) 0 ≡ x → eqb c 136 ≡ y → eqb c 152 ≡ z → (x && (y || z)) ≡ among (codeFrom b c)
-      go true true z p q r = sym (bright-named b c small (eqb-true (b % 16) 0 p) (eqb-true c 136 q) .0)
-      go true false true p q r = sym (dim-named b c small (eqb-true (b % 16) 0 p) (eqb-true c 152 r) .0)
-      go true false false p q r =
-          sym (not-one (among (codeFrom b c)) (λ one. ⊎-elim (eqb-false c 136 q) (eqb-false c 152 r) (bits-of-step b c one high .1)))
-      go false y z p q r = sym (not-one (among (codeFrom b c)) (λ one. eqb-false (b % 16) 0 p (bits-of-step b c one high .0)))
-
-  pub step-told : (eqb (b % 16) 0 && (eqb c 136 || eqb c 152)) ≡ (leb 128 c && among (codeFrom b c))
-  step-told = go (leb 128 c) refl
-    where
-      go : (x : Bool) → leb 128 c ≡ x → (eqb (b % 16) 0 && (eqb c 136 || eqb c 152)) ≡ (x && among (codeFrom b c))
-      go true high = step-test (leb-true 128 c high)
-      go false high = low (eqb (b % 16) 0)
-        where
-          low : (t : Bool) → (t && (eqb c 136 || eqb c 152)) ≡ false
-          low true = simp (ne-eqb c 136 (λ e. omega (arith, leb-false 128 c high)), ne-eqb c 152 (λ e. omega (arith, leb-false 128 c high)))
-          low false = refl
+      go : (x y z : Bool) → eqb (b % 16) 0 ≡ x → eqb c 136 ≡ y → eqb c 152 ≡ z → (x && (y || z)) ≡ stepCode (codeFrom b c)
+      go true true z p q r = step-named _ (bright-named b c small (eqb-true (b % 16) 0 p) (eqb-true c 136 q)) refl
+      go true false true p q r = step-named _ (dim-named b c small (eqb-true (b % 16) 0 p) (eqb-true c 152 r)) refl
+      go true false false p q r = sym (not-one _ (λ t. ⊎-elim (eqb-false c 136 q) (eqb-false c 152 r) (of-step b c t .1)))
+      go false y z p q r = sym (not-one _ (λ t. eqb-false (b % 16) 0 p (of-step b c t .0)))
 
 -- ---- what the reader answers for b and c
 
 module _ (b c : ℕ) where
-  pub of-switch : (ltb c 128 && among (codeFrom b c)) ≡ true → (c < 128) × (among (codeFrom b c) ≡ true)
-  of-switch t = let p = and-eq-true-iff (ltb c 128) (among (codeFrom b c)) .0 t in (ltb-true c 128 (p .0), p .1)
-
-  pub of-step : (leb 128 c && among (codeFrom b c)) ≡ true → (b % 16 ≡ 0) × ((c ≡ 136) ⊎ (c ≡ 152))
-  of-step t = let p = and-eq-true-iff (leb 128 c) (among (codeFrom b c)) .0 t in bits-of-step b c (p .1) (leb-true 128 c (p .0))
-
   pub answered : (k : RadioCommand) → (among (codeFrom b c) ≡ true) × (commandOf (codeFrom b c) ≡ k) → read.Command k ≡ namedAnswer (codeFrom b c)
   unfolding judged
   answered k it = simp (it .0, it .1)
 
-  pub unanswered : (ltb c 128 && among (codeFrom b c)) ≡ false → (leb 128 c && among (codeFrom b c)) ≡ false
-      → read.Refused refusal.Code ≡ namedAnswer (codeFrom b c)
+  pub unanswered : switchCode (codeFrom b c) ≡ false → stepCode (codeFrom b c) ≡ false → read.Refused refusal.Code ≡ namedAnswer (codeFrom b c)
   unfolding judged
-  unanswered low high = simp (not-one (among (codeFrom b c)) (λ one. go (ltb c 128) refl one))
+  unanswered switch step = simp (go (among (codeFrom b c)) (isSwitch (commandOf (codeFrom b c))) switch step)
     where
-      go : (x : Bool) → ltb c 128 ≡ x → among (codeFrom b c) ≡ true → ⊥
-      go true t one = true≢false (sym (both t one) ∙ low)
-      go false t one = true≢false (sym (both (le-leb 128 c (ltb-false c 128 t)) one) ∙ high)
+      go : (a s : Bool) → (a && s) ≡ false → (a && not s) ≡ false → a ≡ false
+      go true true p q = p
+      go true false p q = q
+      go false s p q = refl

@@ -1,28 +1,24 @@
 -- The statements of specs/Statements.antt about codes and answers, proved.
-use mathlib.Core.Path.{_≡_, refl, sym, ap, ap₂, subst, _∙_}
-use mathlib.Core.Bool.{Bool, true, false, _&&_, and-eq-true-iff}
-use mathlib.Core.List.{List, [], _∷_, List·Memᴰ, List·Memᴰ·not-nil, Memᴰ·map, Memᴰ·of-map, Memᴰ·cast}
-use Prim.Native.Nat.{ℕ, _+_, _-_, _*_, _<_}
+use mathlib.Core.Path.{_≡_, refl, sym, ap, subst, _∙_}
+use mathlib.Core.Bool.{Bool, true, false, and-eq-true-iff}
+use mathlib.Core.List.{List, [], List·Memᴰ, List·Memᴰ·not-nil, Memᴰ·map, Memᴰ·of-map, Memᴰ·cast}
+use Prim.Native.Nat.{ℕ, _<_}
 use native.Mathlib.Omega.{arith}
-use borrow.Author.Tests.{le-leb}
 use lib.Dec.{leb}
 use lib.ListN.{length, getD, List·getD-map}
 use Rattle.ground.specs.Refusals.{Report, reports, refuses, Cause, judged, lowest, rising}
-use Rattle.ground.proofs.Choices.{both, below-sixteen}
 use Rattle.ground.proofs.Causes.{judged-map, some-number, lowest-given}
 use Rattle.message.specs.Messages.{messageOk}
 use Rattle.message.proofs.Tables.{everyFrom, getD-any}
-use Rattle.radio.specs.Codes.{Place, its, unitBits, houseInB, unitInB, unitInC, unitFrom, byteB, byteC, fourBytes, commandOk, commands, codes}
+use Rattle.radio.specs.Codes.{fourBytes, commandOk, commands, codes}
 use Rattle.radio.specs.Answers.{writeCauses, readCauses, readAnswer, readReport, messagesOf, messagesCauses, messagesAnswer}
-use Rattle.radio.specs.Statements.{Exactly544, ReadOfWritten, WrittenOfRead, OnOrOff, on, off, UnitByItsBits, turned, turnedAt, TurnedUnitBit}
-use Rattle.radio.specs.Statements.{MessagesValid, LowestNumbers}
+use Rattle.radio.specs.Statements.{Exactly544, ReadOfWritten, WrittenOfRead, MessagesValid, LowestNumbers}
 use Rattle.radio.specs.declared.RadioCommand.{RadioCommand}
 use Rattle.radio.specs.declared.RadioCommand.the-variants.{On, Off, Bright, Dim}
 use Rattle.radio.specs.declared.RadioRead.the-variants as read
-use Rattle.radio.proofs.CodeLaws.{unit-told, no-shared-code}
+use Rattle.radio.proofs.CodeLaws.{no-shared-code}
 use Rattle.radio.proofs.CommandLaws.{getD-mem, every-mem, in-commands, commands-ok, commands-count, commands-one-to-one, codes-count}
 use Rattle.radio.proofs.AnswerLaws.{write-given, Read, named, refused, read-cases, read-given, write-reported, read-reported, messages-reported}
-use Rattle.radio.proofs.TurnedLaws.{moved-below, turned-code}
 
 -- ---- there and back
 
@@ -41,66 +37,6 @@ read-as k code e = go (read-cases code)
 
 pub written-of-read : WrittenOfRead
 written-of-read k code e = let it = read-as k code e in write-given k (it .0) ∙ ap reports (it .1)
-
--- ---- the unit's bits
-
--- b and c of an on or off, with the number of its off bit
-record Switch (switch : ℕ → ℕ → RadioCommand) : Type 0 where
-  f : ℕ
-  bit : f < 2
-  b-is : (h u : ℕ) → byteB (switch h u) ≡ houseInB h + unitInB u
-  c-is : (h u : ℕ) → byteC (switch h u) ≡ unitInC u + f * 32
-  ok-is : (h u : ℕ) → commandOk (switch h u) ≡ (leb h 15 && leb u 15)
-
-switch-is : (switch : ℕ → ℕ → RadioCommand) → OnOrOff switch → Switch switch
-switch-is switch on = record { f = 0; bit = omega arith; b-is = λ h u. refl; c-is = λ h u. omega arith; ok-is = λ h u. refl }
-switch-is switch off = record { f = 1; bit = omega arith; b-is = λ h u. refl; c-is = λ h u. omega arith; ok-is = λ h u. refl }
-
--- the b and c of four bytes that are read as an on or off, and their complements
-record ReadSwitch (switch : ℕ → ℕ → RadioCommand) (h u b x c y : ℕ) : Type 0 where
-  unit : u < 16
-  house : leb h 15 ≡ true
-  b-is : byteB (switch h u) ≡ b
-  x-is : 255 - byteB (switch h u) ≡ x
-  c-is : byteC (switch h u) ≡ c
-  y-is : 255 - byteC (switch h u) ≡ y
-
-module _ (switch : ℕ → ℕ → RadioCommand) (s : Switch switch) (h u b x c y : ℕ) where
-  read-switch : readAnswer (b ∷ x ∷ c ∷ y ∷ []) ≡ read.Command (switch h u) → ReadSwitch switch h u b x c y
-  read-switch e =
-      let it = read-as (switch h u) (b ∷ x ∷ c ∷ y ∷ []) e in
-      let ok = and-eq-true-iff (leb h 15) (leb u 15) .0 (sym (s .ok-is h u) ∙ it .0) in
-      let bytes = it .1 in
-      record { unit = below-sixteen u (ok .1); house = ok .0; b-is = cc; x-is = cc; c-is = cc; y-is = cc }
-
-  told : ReadSwitch switch h u b x c y → u ≡ unitFrom b c
-  told r =
-      sym (ap₂ unitFrom (sym (r .b-is) ∙ s .b-is h u) (sym (r .c-is)) ∙ unit-told h u (byteC (switch h u)) (s .f) (r .unit) (s .bit) (s .c-is h u))
-
-  module _ (w : ℕ) (p : Place) (m : List·Memᴰ (its w p) unitBits) (r : ReadSwitch switch h u b x c y) where
-    moved-ok : commandOk (switch h (turned w u)) ≡ true
-    moved-ok =
-        let below : turned w u < 16 = moved-below w u p m (r .unit) in
-        s .ok-is h (turned w u) ∙ both (r .house) (le-leb (turned w u) 15 (omega arith))
-
-    moved-bytes : turnedAt p b x c y ≡ fourBytes (switch h (turned w u))
-    moved-bytes =
-        rw⁻¹ (r .b-is, r .x-is, r .c-is, r .y-is)
-        (rw (s .b-is h u, s .b-is h (turned w u))
-        (turned-code w h u (byteC (switch h u)) (byteC (switch h (turned w u))) (s .f) (s .bit) (s .c-is h u) (s .c-is h (turned w u)) p m))
-
-pub unit-by-its-bits : UnitByItsBits
-unit-by-its-bits switch o h u b x c y e =
-    let s = switch-is switch o in
-    told switch s h u b x c y (read-switch switch s h u b x c y e)
-
-pub turned-unit-bit : TurnedUnitBit
-turned-unit-bit switch o w p m h u b x c y e =
-    let s = switch-is switch o in
-    let r = read-switch switch s h u b x c y e in
-    let ok = moved-ok switch s h u b x c y w p m r in
-    let bytes = moved-bytes switch s h u b x c y w p m r in
-    (ap readAnswer bytes ∙ read-given (switch h (turned w u)) ok, write-given (switch h (turned w u)) ok ∙ ap reports (sym bytes))
 
 -- ---- the 544 codes
 

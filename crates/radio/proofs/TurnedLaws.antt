@@ -1,11 +1,10 @@
--- Why a turned unit bit moves the unit by its weight: turning a bit is an exclusive or, and an exclusive or of units goes through b and c bit
--- by bit, whatever the unit is moved by. A byte's complement has every bit of the byte turned, so its own bit turns with it.
+-- A turned bit of a code. Turning a bit is an exclusive or; the exclusive or of two units has, in b and in c, the exclusive or of their bits,
+-- whatever the second unit is, and a weight has one bit there. A byte's complement has every bit of the byte turned, so its own bit turns
+-- with it.
 --
---     xor-bit, turned-xor                a turned bit as an exclusive or
---     digit-xor, complement-turned       each bit of an exclusive or; the same bit turned in the complement
---     shift, above, b-xor, c-xor         b and c of a unit that is moved
---     Alone, alone                       of each of the four bits: a unit that is its weight alone has this bit alone
---     moved-below, turned-code           the unit that is moved; a code with one of the unit's bits turned
+--     turned-xor       a turned bit as an exclusive or
+--     moved-below      a unit that one of its bits moves stays below 16
+--     turned-code      a code with one of the unit's bits turned
 use mathlib.Core.Path.{_≡_, refl, sym, ap, ap₂, subst, _∙_}
 use mathlib.Core.Bool.{Bool, true, _&&_, and-eq-true-iff}
 use mathlib.Core.List.{List, [], _∷_, List·Memᴰ}

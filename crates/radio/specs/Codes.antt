@@ -1,6 +1,6 @@
 -- Radio commands and their four bytes (01, 'Radio bytes').
 use Prim.Native.Nat.{ℕ, _+_, _-_, _*_, _/_, _%_, _^_}
-use mathlib.Core.Bool.{Bool, true, false, _&&_}
+use mathlib.Core.Bool.{Bool, true, false, not, _&&_}
 use mathlib.Core.List.{List, [], _∷_, _++_, flatMap, map}
 use lib.Dec.{eqb, leb, ltb}
 use lib.ListN.{getD}
@@ -22,9 +22,12 @@ houseOfNibble n = placeIn eqb n houseNibbles
 abbrev pub houseInB : ℕ → ℕ
 houseInB h = nibbleOf h * 2 ^ 4
 
--- n's bit i, 0 or 1
+-- n's binary digit of a weight, 0 or 1, and its bit i
+abbrev pub digit : ℕ → ℕ → ℕ
+digit w n = n / w % 2
+
 abbrev pub bitAt : ℕ → ℕ → ℕ
-bitAt n i = n / 2 ^ i % 2
+bitAt n i = digit (2 ^ i) n
 
 -- one of the bits of b, or of c
 pub data Place : Type 0 where
@@ -50,12 +53,12 @@ total f (x ∷ xs) = f x + total f xs
 
 -- written: what a bit of the unit u is in b, and in c
 abbrev pub bitInB : ℕ → UnitBit → ℕ
-bitInB u (its w (b's i)) = u / w % 2 * 2 ^ i
+bitInB u (its w (b's i)) = digit w u * 2 ^ i
 bitInB u (its w (c's i)) = 0
 
 abbrev pub bitInC : ℕ → UnitBit → ℕ
 bitInC u (its w (b's i)) = 0
-bitInC u (its w (c's i)) = u / w % 2 * 2 ^ i
+bitInC u (its w (c's i)) = digit w u * 2 ^ i
 
 abbrev pub unitInB : ℕ → ℕ
 unitInB u = total (bitInB u) unitBits
@@ -134,3 +137,17 @@ among code = ltb (codePlace code) 544
 -- the command that has a code (A bright where none has: such bytes are refused)
 unfoldable pub commandOf : List ℕ → RadioCommand
 commandOf code = getD commands (codePlace code) (Bright 0)
+
+-- whether a command is on or off, and so names a unit
+abbrev pub isSwitch : RadioCommand → Bool
+isSwitch (On h u) = true
+isSwitch (Off h u) = true
+isSwitch (Bright h) = false
+isSwitch (Dim h) = false
+
+-- whether a code is one for on or off, and whether it is one for bright or dim
+abbrev pub switchCode : List ℕ → Bool
+switchCode code = among code && isSwitch (commandOf code)
+
+abbrev pub stepCode : List ℕ → Bool
+stepCode code = among code && not (isSwitch (commandOf code))

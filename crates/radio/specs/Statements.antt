@@ -2,7 +2,7 @@
 use mathlib.Core.Path.{_≡_}
 use mathlib.Core.Bool.{true}
 use mathlib.Core.List.{List, [], _∷_, List·Memᴰ}
-use Prim.Native.Nat.{ℕ, _+_, _-_, _/_, _%_, _^_, _<_}
+use Prim.Native.Nat.{ℕ, _+_, _-_, _^_, _<_}
 use lib.Bits.{bitXor}
 use lib.Dec.{eqb}
 use lib.ListN.{length, getD}
@@ -10,7 +10,7 @@ use Rattle.ground.specs.Choice.{pick}
 use Rattle.ground.specs.Refusals.{reports, lowest}
 use Rattle.message.specs.Messages.{messageOk}
 use Rattle.message.specs.declared.Message.{Message}
-use Rattle.radio.specs.Codes.{nibbleOf, Place, b's, c's, its, unitBits, unitFrom, commandOk, fourBytes, codes}
+use Rattle.radio.specs.Codes.{nibbleOf, digit, Place, b's, c's, its, unitBits, unitFrom, commandOk, fourBytes, codes}
 use Rattle.radio.specs.Answers.{writeCauses, writeAnswer, writeReport, readCauses, readAnswer, readReport, messagesCauses, messagesAnswer, messagesReport}
 use Rattle.radio.specs.declared.RadioCommand.{RadioCommand}
 use Rattle.radio.specs.declared.RadioCommand.the-variants.{On, Off}
@@ -55,9 +55,9 @@ UnitByItsBits = (switch : ℕ → ℕ → RadioCommand) → OnOrOff switch → (
 
 -- a number with its bit of a weight turned: more by the weight where the bit was 0, less by it where the bit was 1
 abbrev pub turned : ℕ → ℕ → ℕ
-turned w n = pick (eqb (n / w % 2) 0) (n + w) (n - w)
+turned w n = pick (eqb (digit w n) 0) (n + w) (n - w)
 
--- which is the exclusive or of the two
+-- which is the exclusive or of the number and the weight
 abbrev pub TurnedIsXor : Type 0
 TurnedIsXor = (k n : ℕ) → turned (2 ^ k) n ≡ bitXor n (2 ^ k)
 

@@ -3,13 +3,12 @@ use ground::Refusal;
 use message::Function;
 use message::Message;
 ghost use mathlib.Core.Path.{_≡_};
-ghost use mathlib.Core.Bool.{true, _&&_};
+ghost use mathlib.Core.Bool.{true};
 ghost use mathlib.Core.List.{[], _∷_};
 ghost use Prim.Native.Nat.{_+_, _/_, _<_};
-ghost use lib.Dec.{leb, ltb};
 ghost use Rattle.ground.specs.Refusals.{judged, reports, refuses};
 ghost use Rattle.radio.specs.Codes.{nibbleOf, houseOfNibble, commandOk, houseInB, bitAt, unitInB, unitInC, unitFrom, byteB, byteC};
-ghost use Rattle.radio.specs.Codes.{codeFrom, fourBytes, among, commandOf};
+ghost use Rattle.radio.specs.Codes.{codeFrom, fourBytes, commandOf, switchCode, stepCode};
 ghost use Rattle.radio.specs.Answers.{writeCauses, writeAnswer, writeReport, namedAnswer, readCauses, readAnswer, readReport};
 ghost use Rattle.radio.specs.Answers.{addressThen, messagesMeant, messagesOf, messagesCauses, messagesAnswer, messagesReport};
 
@@ -127,14 +126,14 @@ pub fn write(command: RadioCommand) -> RadioBytes
 
 // Whether b and c are those of an on or off: bits 3, 1 and 0 of b and bits 7, 2, 1 and 0 of c are 0.
 fn is_switch(b: u8, c: u8) -> bool
-    ensures { λ r. ⌜ r ≡ (ltb c 128 && among (codeFrom b c)) ⌝ }
+    ensures { λ r. ⌜ r ≡ switchCode (codeFrom b c) ⌝ }
 {
     (c < 128) & (b & 11 == 0) & (c % 8 == 0)
 }
 
 // Whether b and c are those of a bright or dim.
 fn is_step(b: u8, c: u8) -> bool
-    ensures { λ r. ⌜ r ≡ (leb 128 c && among (codeFrom b c)) ⌝ }
+    ensures { λ r. ⌜ r ≡ stepCode (codeFrom b c) ⌝ }
 {
     (b % 16 == 0) & ((c == 136) | (c == 152))
 }
@@ -155,16 +154,17 @@ fn unit_from(b: u8, c: u8) -> u8
     let its_4 = bit_at(c, 6) * 4;
     let its_2 = bit_at(c, 3) * 2;
     let its_1 = bit_at(c, 4) * 1;
+    // Lowest first, which the compiler makes smaller code of.
     its_1 + its_2 + its_4 + its_8
 }
 
 // The on or off that b and c name.
 fn switch_of(house: u8, b: u8, c: u8) -> RadioCommand
-    requires { ⌜ (house ≡ houseOfNibble (b / 16)) × (among (codeFrom b c) ≡ true) × (c < 128) ⌝ }
+    requires { ⌜ (house ≡ houseOfNibble (b / 16)) × (switchCode (codeFrom b c) ≡ true) ⌝ }
     ensures { λ r. ⌜ r ≡ commandOf (codeFrom b c) ⌝ }
 {
     let unit = unit_from(b, c);
-    if c / 32 % 2 == 0 {
+    if bit_at(c, 5) == 0 {
         RadioCommand::On {
             house: house,
             unit: unit,

@@ -57,14 +57,6 @@ fn command_of(s: Switch) -> RadioCommand {
     }
 }
 
-// The four bytes of a command.
-fn bytes_of(command: RadioCommand) -> [u8; 4] {
-    match write(command) {
-        RadioBytes::Bytes(b, x, c, y) => [b, x, c, y],
-        RadioBytes::Refused(_) => [0, 0, 0, 0],
-    }
-}
-
 // Four bytes with bits of one of them turned.
 fn turned(code: [u8; 4], at: usize, mask: u8) -> [u8; 4]
     requires { ⌜ at < 4 ⌝ }
@@ -86,7 +78,7 @@ fn moved(was: u8, is: u8) -> u16 {
 }
 
 // What an on or off has become that is read as another: it differs in one thing.
-fn beside(was: Switch, house: u8, unit: u8, off: u8) -> u16 {
+fn became(was: Switch, house: u8, unit: u8, off: u8) -> u16 {
     let same_house = house == was.house;
     let same_unit = unit == was.unit;
     if off != was.off {
@@ -109,8 +101,8 @@ fn stepped(was: Switch, house: u8, step: u16) -> u16 {
 
 fn named(was: Switch, command: RadioCommand) -> u16 {
     match command {
-        RadioCommand::On { house, unit } => beside(was, house, unit, 0),
-        RadioCommand::Off { house, unit } => beside(was, house, unit, 1),
+        RadioCommand::On { house, unit } => became(was, house, unit, 0),
+        RadioCommand::Off { house, unit } => became(was, house, unit, 1),
         RadioCommand::Bright { house } => stepped(was, house, BRIGHT),
         RadioCommand::Dim { house } => stepped(was, house, DIM),
     }
@@ -127,20 +119,28 @@ fn outcome(was: Switch, code: [u8; 4]) -> u16 {
     }
 }
 
-// All outcomes of the 512 codes, with bits of two of the four bytes turned.
+// The outcome of the on or off of a row, with bits of two of its four bytes turned.
+fn outcome_at(row: usize, first: usize, mask: u8, second: usize, other: u8) -> u16
+    requires { ⌜ (row < 512) × (first < 4) × (second < 4) ⌝ }
+{
+    let was = switch_at(row);
+    match write(command_of(was)) {
+        RadioBytes::Bytes(b, x, c, y) => outcome(
+            was,
+            turned(turned([b, x, c, y], first, mask), second, other),
+        ),
+        RadioBytes::Refused(_) => OTHER,
+    }
+}
+
+// All outcomes of the 512 codes.
 fn outcomes(first: usize, mask: u8, second: usize, other: u8) -> u16
     requires { ⌜ (first < 4) × (second < 4) ⌝ }
 {
     let mut set = 0;
     let mut row = 0;
     while row < CODES {
-        let was = switch_at(row);
-        let code = turned(
-            turned(bytes_of(command_of(was)), first, mask),
-            second,
-            other,
-        );
-        set = set | outcome(was, code);
+        set = set | outcome_at(row, first, mask, second, other);
         row += 1;
     }
     set

@@ -102,11 +102,16 @@ fn put_command(command: RadioCommand) -> Text {
     }
 }
 
-// The row of four bytes: the command that they are read as, b and c. Bytes that are refused have a row that no listing prints.
+// A row that no listing prints, where writer or reader refuses.
+fn put_refused() -> Text {
+    put_word(put_house(16), b"REFUSED")
+}
+
+// The row of four bytes: the command that they are read as, b and c.
 fn put_read(code: [u8; 4]) -> Text {
     match radio::read(&code) {
         RadioRead::Command(k) => put_bits(put_bits(put_command(k), code[0]), code[2]),
-        RadioRead::Refused(_) => put_word(put_house(16), b"REFUSED"),
+        RadioRead::Refused(_) => put_refused(),
     }
 }
 
@@ -114,7 +119,7 @@ fn put_read(code: [u8; 4]) -> Text {
 fn put_row(command: RadioCommand) -> Text {
     match radio::write(command) {
         RadioBytes::Bytes(b, x, c, y) => put_read([b, x, c, y]),
-        RadioBytes::Refused(_) => put_word(put_house(16), b"REFUSED"),
+        RadioBytes::Refused(_) => put_refused(),
     }
 }
 

@@ -1,12 +1,14 @@
 -- `command_of` meets its contract: a code is that of an on or off, or of a bright or dim, and its b and c are those of the command named here.
 use mathlib.Core.Path.{refl, sym, ap, _∙_}
+use mathlib.Core.Bool.{and-eq-true-iff}
 use mathlib.Core.Logic.{⊎-elim}
 use Prim.Native.Nat.{ℕ}
 use borrow.Author.Needs.{needs}
 use Rattle.ground.proofs.Causes.{bad, fine}
+use Rattle.radio.specs.Codes.{codeFrom, among}
 use Rattle.radio.specs.declared.RadioCommand.the-variants.{Bright, Dim}
 use Rattle.radio.specs.declared.RadioRead.the-variants.{Command}
-use Rattle.radio.proofs.ReaderLaws.{of-switch, of-step, bright-named, dim-named, answered, unanswered}
+use Rattle.radio.proofs.ReaderLaws.{of-step, bright-named, dim-named, answered, unanswered}
 use Rattle.radio.proofs.command_of.Statement.{statement}
 use Rattle.radio.proofs.command_of.Tie as tie
 
@@ -17,16 +19,13 @@ is-switch-requires : tie.Need-is-switch-requires
 is-switch-requires c κs = search needs
 
 switch-of-requires : tie.Need-switch-of-requires
-switch-of-requires c κs =
-    let a = c .before .before .before .args in
-    let p = of-switch (a .b) (a .c) (sym (c .before .is-switch .ensures) ∙ c .if1 .taken) in
-    (c .before .before .house-of-nibble .ensures, p .1, p .0)
+switch-of-requires c κs = (c .before .before .house-of-nibble .ensures, sym (c .before .is-switch .ensures) ∙ c .if1 .taken)
 
 returns : tie.Need-returns
 returns c =
     let a = c .before .before .before .before .args in
-    let p = of-switch (a .b) (a .c) (sym (c .before .before .is-switch .ensures) ∙ c .before .if1 .taken) in
-    ap Command (c .switch-of .ensures) ∙ answered (a .b) (a .c) _ (p .1, refl)
+    let one = and-eq-true-iff (among (codeFrom (a .b) (a .c))) _ .0 (sym (c .before .before .is-switch .ensures) ∙ c .before .if1 .taken) .0 in
+    ap Command (c .switch-of .ensures) ∙ answered (a .b) (a .c) _ (one, refl)
 
 is-step-requires : tie.Need-is-step-requires
 is-step-requires c κs = search needs

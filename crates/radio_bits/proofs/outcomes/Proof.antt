@@ -13,23 +13,8 @@ abbrev μ-loop : tie.MeasureT-loop
 loop-holds : tie.Need-loop-holds Inv-loop μ-loop
 loop-holds c = search needs
 
-switch-at-requires : tie.Need-switch-at-requires Inv-loop μ-loop
-switch-at-requires c κs = search needs
-
-command-of-requires : tie.Need-command-of-requires Inv-loop μ-loop
-command-of-requires c κs = search needs
-
-bytes-of-requires : tie.Need-bytes-of-requires Inv-loop μ-loop
-bytes-of-requires c κs = search needs
-
-turned-requires : tie.Need-turned-requires Inv-loop μ-loop
-turned-requires c κs = search needs
-
-turned-requires-2 : tie.Need-turned-requires-2 Inv-loop μ-loop
-turned-requires-2 c κs = search needs
-
-outcome-requires : tie.Need-outcome-requires Inv-loop μ-loop
-outcome-requires c κs = search needs
+outcome-at-requires : tie.Need-outcome-at-requires Inv-loop μ-loop
+outcome-at-requires c κs = search needs
 
 add-row : tie.Need-add-row Inv-loop μ-loop
 add-row c = search needs
@@ -46,17 +31,4 @@ returns c = search needs
 pub outcomes-spec : {M : Type 1} → statement M
 outcomes-spec =
     tie.close
-    (tie.spec
-    Inv-loop
-    μ-loop
-    loop-holds
-    switch-at-requires
-    command-of-requires
-    bytes-of-requires
-    turned-requires
-    turned-requires-2
-    outcome-requires
-    add-row
-    loop-less
-    loop-again
-    returns)
+    (tie.spec Inv-loop μ-loop loop-holds outcome-at-requires add-row loop-less loop-again returns)
