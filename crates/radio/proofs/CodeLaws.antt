@@ -86,10 +86,15 @@ record SwitchBits (c q t o f : ℕ) : Type 0 where
 switch-bits : (c q t o f : ℕ) → q < 2 → t < 2 → o < 2 → f < 2 → c ≡ q * 64 + t * 8 + o * 16 + f * 32 → SwitchBits c q t o f
 switch-bits c q t o f hq ht ho hf is = omega arith
 
+-- the bits of c, of a unit and the off bit
+switch-of-unit : (u c f : ℕ) → f < 2 → c ≡ unitInC u + f * 32 → SwitchBits c (u / 4 % 2) (u / 2 % 2) (u % 2) f
+switch-of-unit u c f hf is =
+    switch-bits c (u / 4 % 2) (u / 2 % 2) (u % 2) f (bit-below (u / 4)) (bit-below (u / 2)) (bit-below u) hf (omega arith)
+
 -- the unit, and the command, taken out of the bits
 pub unit-told : (h u c f : ℕ) → u < 16 → f < 2 → c ≡ unitInC u + f * 32 → unitFrom (houseInB h + unitInB u) c ≡ u
 unit-told h u c f hu hf is =
-    let s = switch-bits c (u / 4 % 2) (u / 2 % 2) (u % 2) f (bit-below (u / 4)) (bit-below (u / 2)) (bit-below u) hf (omega arith) in
+    let s = switch-of-unit u c f hf is in
     let eight : (houseInB h + unitInB u) / 4 % 2 ≡ u / 8 % 2 = omega arith in
     omega (arith, eight, s .six, s .three, s .four, digits u hu)
 
@@ -103,7 +108,7 @@ from-switch : (h u c f : ℕ) → h < 16 → u < 16 → f < 2 → c ≡ unitInC 
     → commandFrom (houseInB h + unitInB u) c ≡ pick (eqb f 0) (On h u) (Off h u)
 unfolding commandFrom
 from-switch h u c f hh hu hf is =
-    let s = switch-bits c (u / 4 % 2) (u / 2 % 2) (u % 2) f (bit-below (u / 4)) (bit-below (u / 2)) (bit-below u) hf (omega arith) in
+    let s = switch-of-unit u c f hf is in
     let low = s .low in
     let high : (houseInB h + unitInB u) / 16 ≡ nibbleOf h = omega arith in
     simp (

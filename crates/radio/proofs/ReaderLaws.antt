@@ -12,7 +12,7 @@ use mathlib.Core.List.{List, [], _∷_}
 use mathlib.Core.Logic.{_⊎_, inl, inr, ⊎-elim}
 use Prim.Native.Nat.{ℕ, _+_, _-_, _*_, _/_, _%_, _<_}
 use native.Mathlib.Omega.{arith}
-use borrow.Author.Tests.{eqb-true, eqb-false, ne-eqb, leb-true, leb-false, ltb-true, ltb-false, not-true, not-false, le-leb}
+use borrow.Author.Tests.{eqb-true, eqb-false, ltb-true, ltb-false, not-true, not-false, le-leb}
 use lib.Bits.{bitAnd, and-step, and-high}
 use lib.Dec.{eqb, leb, ltb}
 use lib.ListN.{length, getD}
@@ -120,7 +120,7 @@ module _ (b c : ℕ) where
 
 module _ (b c : ℕ) where
   -- a command that has this b and this c
-  pub named-by : (k : RadioCommand) → commandOk k ≡ true → byteB k ≡ b → byteC k ≡ c → (among (codeFrom b c) ≡ true) × (commandOf (codeFrom b c) ≡ k)
+  named-by : (k : RadioCommand) → commandOk k ≡ true → byteB k ≡ b → byteC k ≡ c → (among (codeFrom b c) ≡ true) × (commandOf (codeFrom b c) ≡ k)
   named-by k ok eb ec = rw (eb, ec) at (named-of-code k ok)
 
   -- what the code's command, and so its kind, says of b and c

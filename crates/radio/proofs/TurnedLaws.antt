@@ -89,7 +89,7 @@ b-xor n u v =
     above 4 n (unitInB u) (unitInB v) (omega arith) (omega arith)
     ∙ ap (λ (x : ℕ). n * 16 + x) (ap₂ bitXor one other ∙ both ∙ omega arith)
 
--- the bits of c, of which f is the off bit
+-- c's bits 5, 4 and 3: off, the unit's 1 and its 2
 low : (f o t o′ t′ : ℕ) → o < 2 → t < 2 → o′ < 2 → t′ < 2 → bitXor (f * 4 + (o * 2 + t)) (o′ * 2 + t′) ≡ f * 4 + (bitXor o o′ * 2 + bitXor t t′)
 low f o t o′ t′ ho ht ho′ ht′ =
     above 2 f (o * 2 + t) (o′ * 2 + t′) (omega arith) (omega arith)
@@ -102,8 +102,8 @@ c-xor f u v hf =
     let one = digit-xor 0 u v in
     let r = f * 4 + (u / 1 % 2 * 2 + u / 2 % 2) in
     let s = v / 1 % 2 * 2 + v / 2 % 2 in
-    let mine : unitInC u + f * 32 ≡ (u / 4 % 2 * 8 + (f * 4 + (u / 1 % 2 * 2 + u / 2 % 2))) * 8 = omega arith in
-    let other : unitInC v ≡ (v / 4 % 2 * 8 + (v / 1 % 2 * 2 + v / 2 % 2)) * 8 = omega arith in
+    let mine : unitInC u + f * 32 ≡ (u / 4 % 2 * 8 + r) * 8 = omega arith in
+    let other : unitInC v ≡ (v / 4 % 2 * 8 + s) * 8 = omega arith in
     let whole = shift 3 (u / 4 % 2 * 8 + r) (v / 4 % 2 * 8 + s) in
     let high = xor-block 3 (u / 4 % 2) (v / 4 % 2) r s (omega arith) (omega arith) in
     let below = low f (u / 1 % 2) (u / 2 % 2) (v / 1 % 2) (v / 2 % 2) (bit-below (u / 1)) (bit-below (u / 2)) (bit-below (v / 1)) (bit-below (v / 2)) in
@@ -124,6 +124,7 @@ abbrev aloneC : Place → ℕ
 aloneC (b's i) = 0
 aloneC (c's i) = 2 ^ i
 
+-- the k of a weight 2 ^ k
 unfoldable exponent : ℕ → ℕ
 exponent w = placeIn eqb w (1 ∷ 2 ∷ 4 ∷ 8 ∷ [])
 

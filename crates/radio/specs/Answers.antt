@@ -3,7 +3,7 @@ use Prim.Native.Nat.{ℕ, _-_}
 use mathlib.Core.Bool.{Bool, _&&_}
 use mathlib.Core.List.{List, [], _∷_}
 use lib.Dec.{eqb}
-use lib.ListN.{length, getD}
+use lib.ListN.{length, getD, drop}
 use Rattle.ground.specs.Refusals.{Report, reports, refuses, Cause, unless, judged}
 use Rattle.ground.specs.declared.Refusal.the-variants as refusal
 use Rattle.message.specs.declared.Function.{Function}
@@ -41,22 +41,20 @@ writeReport (bytes.Refused why) = refuses why
 abbrev pub complementary : List ℕ → Bool
 complementary code = eqb (getD code 1 0) (255 - getD code 0 0) && eqb (getD code 3 0) (255 - getD code 2 0)
 
--- 14: "not among the 544", of four bytes whose pairs are complementary
-abbrev pub namedCauses : List ℕ → List Cause
-namedCauses code = unless (among code) refusal.Code ∷ []
-
-abbrev pub namedAnswer : List ℕ → RadioRead
-namedAnswer code = judged (namedCauses code) (read.Command (commandOf code)) read.Refused
-
 -- 12, 13, 14: "not 4 bytes; a pair not complementary; not among the 544"
 abbrev pub readCauses : List ℕ → List Cause
 readCauses code =
     unless (eqb (length code) 4) refusal.RfLength
     ∷ unless (complementary code) refusal.Complement
-    ∷ namedCauses code
+    ∷ unless (among code) refusal.Code
+    ∷ []
 
 unfoldable pub readAnswer : List ℕ → RadioRead
 readAnswer code = judged (readCauses code) (read.Command (commandOf code)) read.Refused
+
+-- what is left to answer where 12 and 13 do not apply: by the third cause alone
+abbrev pub namedAnswer : List ℕ → RadioRead
+namedAnswer code = judged (drop 2 (readCauses code)) (read.Command (commandOf code)) read.Refused
 
 -- the number and the command of each answer
 abbrev pub readReport : RadioRead → Report RadioCommand

@@ -24,10 +24,10 @@ houseInB h = nibbleOf h * 2 ^ 4
 
 -- n's binary digit of a weight, 0 or 1, and its bit i
 abbrev pub digit : ℕ → ℕ → ℕ
-digit w n = n / w % 2
+digit n w = n / w % 2
 
 abbrev pub bitAt : ℕ → ℕ → ℕ
-bitAt n i = digit (2 ^ i) n
+bitAt n i = digit n (2 ^ i)
 
 -- one of the bits of b, or of c
 pub data Place : Type 0 where
@@ -46,19 +46,19 @@ unitBits =
     ∷ its 1 (c's 4)
     ∷ []
 
--- the sum of what each of them gives
+-- the sum of what each unit bit gives
 abbrev pub total : (UnitBit → ℕ) → List UnitBit → ℕ
 total f [] = 0
 total f (x ∷ xs) = f x + total f xs
 
 -- written: what a bit of the unit u is in b, and in c
 abbrev pub bitInB : ℕ → UnitBit → ℕ
-bitInB u (its w (b's i)) = digit w u * 2 ^ i
+bitInB u (its w (b's i)) = digit u w * 2 ^ i
 bitInB u (its w (c's i)) = 0
 
 abbrev pub bitInC : ℕ → UnitBit → ℕ
 bitInC u (its w (b's i)) = 0
-bitInC u (its w (c's i)) = digit w u * 2 ^ i
+bitInC u (its w (c's i)) = digit u w * 2 ^ i
 
 abbrev pub unitInB : ℕ → ℕ
 unitInB u = total (bitInB u) unitBits
@@ -145,7 +145,7 @@ isSwitch (Off h u) = true
 isSwitch (Bright h) = false
 isSwitch (Dim h) = false
 
--- whether a code is one for on or off, and whether it is one for bright or dim
+-- what the reader asks of a code: whether it is one for on or off, and whether it is one for bright or dim
 abbrev pub switchCode : List ℕ → Bool
 switchCode code = among code && isSwitch (commandOf code)
 

@@ -43,7 +43,7 @@ WrittenOfRead = (k : RadioCommand) (code : List ℕ) → readAnswer code ≡ rea
 
 -- ---- the unit's bits (02, A4)
 
--- on and off, which name a unit
+-- a command for a house and a unit is an on or an off
 pub data OnOrOff : (ℕ → ℕ → RadioCommand) → Type 0 where
   on : OnOrOff On
   off : OnOrOff Off
@@ -55,7 +55,7 @@ UnitByItsBits = (switch : ℕ → ℕ → RadioCommand) → OnOrOff switch → (
 
 -- a number with its bit of a weight turned: more by the weight where the bit was 0, less by it where the bit was 1
 abbrev pub turned : ℕ → ℕ → ℕ
-turned w n = pick (eqb (digit w n) 0) (n + w) (n - w)
+turned w n = pick (eqb (digit n w) 0) (n + w) (n - w)
 
 -- which is the exclusive or of the number and the weight
 abbrev pub TurnedIsXor : Type 0

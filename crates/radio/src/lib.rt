@@ -124,7 +124,7 @@ pub fn write(command: RadioCommand) -> RadioBytes
     RadioBytes::Bytes(b, 255 - b, c, 255 - c)
 }
 
-// Whether b and c are those of an on or off: bits 3, 1 and 0 of b and bits 7, 2, 1 and 0 of c are 0.
+// Whether b and c are those of an on or off: bits 3, 1 and 0 of b, whose mask is 11, and bits 7, 2, 1 and 0 of c are 0.
 fn is_switch(b: u8, c: u8) -> bool
     ensures { λ r. ⌜ r ≡ switchCode (codeFrom b c) ⌝ }
 {
@@ -154,7 +154,7 @@ fn unit_from(b: u8, c: u8) -> u8
     let its_4 = bit_at(c, 6) * 4;
     let its_2 = bit_at(c, 3) * 2;
     let its_1 = bit_at(c, 4) * 1;
-    // Lowest first, which the compiler makes smaller code of.
+    // Lowest first: highest first `read` is too large to be inlined (docs/DECISIONS.md).
     its_1 + its_2 + its_4 + its_8
 }
 
@@ -189,6 +189,7 @@ fn command_of(b: u8, c: u8) -> RadioRead
     if !is_step(b, c) {
         return RadioRead::Refused(Refusal::Code);
     }
+    // Here c is 136 or 152.
     if c == 136 {
         return RadioRead::Command(RadioCommand::Bright { house: house });
     }

@@ -8,8 +8,6 @@ use radio::read;
 use radio::write;
 ghost use Prim.Native.Nat.{_<_, _≤_};
 
-const CODES: usize = 512;
-
 // Outcomes, each a bit of a set. A unit that has moved by a single weight is that weight: 1, 2, 4 or 8.
 const HOUSE: u16 = 16;
 
@@ -94,17 +92,21 @@ fn became(was: Switch, house: u8, unit: u8, off: u8) -> u16 {
     if same_unit { HOUSE } else { OTHER }
 }
 
-// Bright or dim of the same house.
-fn stepped(was: Switch, house: u8, step: u16) -> u16 {
-    if house == was.house { step } else { OTHER }
+// Bright or dim of the same house, which only the on of one unit becomes.
+fn stepped(was: Switch, house: u8, unit: u8, step: u16) -> u16 {
+    if (house == was.house) & (was.unit == unit) & (was.off == 0) {
+        step
+    } else {
+        OTHER
+    }
 }
 
 fn named(was: Switch, command: RadioCommand) -> u16 {
     match command {
         RadioCommand::On { house, unit } => became(was, house, unit, 0),
         RadioCommand::Off { house, unit } => became(was, house, unit, 1),
-        RadioCommand::Bright { house } => stepped(was, house, BRIGHT),
-        RadioCommand::Dim { house } => stepped(was, house, DIM),
+        RadioCommand::Bright { house } => stepped(was, house, 2, BRIGHT),
+        RadioCommand::Dim { house } => stepped(was, house, 3, DIM),
     }
 }
 
@@ -120,27 +122,27 @@ fn outcome(was: Switch, code: [u8; 4]) -> u16 {
 }
 
 // The outcome of the on or off of a row, with bits of two of its four bytes turned.
-fn outcome_at(row: usize, first: usize, mask: u8, second: usize, other: u8) -> u16
+fn outcome_at(row: usize, first: usize, mask: u8, second: usize, second_mask: u8) -> u16
     requires { ⌜ (row < 512) × (first < 4) × (second < 4) ⌝ }
 {
     let was = switch_at(row);
     match write(command_of(was)) {
         RadioBytes::Bytes(b, x, c, y) => outcome(
             was,
-            turned(turned([b, x, c, y], first, mask), second, other),
+            turned(turned([b, x, c, y], first, mask), second, second_mask),
         ),
         RadioBytes::Refused(_) => OTHER,
     }
 }
 
 // All outcomes of the 512 codes.
-fn outcomes(first: usize, mask: u8, second: usize, other: u8) -> u16
+fn outcomes(first: usize, mask: u8, second: usize, second_mask: u8) -> u16
     requires { ⌜ (first < 4) × (second < 4) ⌝ }
 {
     let mut set = 0;
     let mut row = 0;
-    while row < CODES {
-        set = set | outcome_at(row, first, mask, second, other);
+    while row < 512 {
+        set = set | outcome_at(row, first, mask, second, second_mask);
         row += 1;
     }
     set
@@ -160,8 +162,8 @@ fn print_set(set: u16) {
     print_one(set, 1, b"unit moved by 1");
     print_one(set, HOUSE, b"another house");
     print_one(set, SWITCHED, b"off for on, on for off");
-    print_one(set, BRIGHT, b"bright");
-    print_one(set, DIM, b"dim");
+    print_one(set, BRIGHT, b"unit 3 on: bright");
+    print_one(set, DIM, b"unit 4 on: dim");
     print_one(set, COMPLEMENT, b"refused 13");
     print_one(set, CODE, b"refused 14");
     print_one(set, OTHER, b"something else");
@@ -190,7 +192,7 @@ fn print_byte(name: &[u8], at: usize)
     }
 }
 
-// All outcomes where one bit of the 32 is turned alone.
+// All outcomes where one bit of the 32 is turned alone, no second bit with it.
 fn print_alone() {
     let mut set = 0;
     let mut place: usize = 0;

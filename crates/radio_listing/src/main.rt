@@ -1,4 +1,4 @@
-// Holds the listing of radio codes of source 004 against the writer and the reader. Prints each row where they differ: its number, what
+// Holds the listing of radio codes of source 004 against the writer and the reader. Prints each row that differs from these: its number, what
 // the listing prints, what the reader names and what the writer gives; then totals.
 //
 // data/listing.tsv has a row for each of the 544 commands, house after house: the command, b and c as the listing prints them,
@@ -102,7 +102,7 @@ fn put_command(command: RadioCommand) -> Text {
     }
 }
 
-// A row that no listing prints, where writer or reader refuses.
+// A row that no listing prints, of a house that there is not, where writer or reader refuses.
 fn put_refused() -> Text {
     put_word(put_house(16), b"REFUSED")
 }
