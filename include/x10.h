@@ -30,13 +30,13 @@ extern "C" {
 
 /* The version of this header and of the library: major * 10,000 + minor * 100 + patch. While the
  * major number is 0, a minor version may change what is exported. */
-#define X10_VERSION 1400
-#define X10_VERSION_TEXT "0.14.0"
+#define X10_VERSION 1500
+#define X10_VERSION_TEXT "0.15.0"
 
 /* Numbers given back: 0, those of refusals, and of the two BROKEN events. */
 enum x10_result {
     X10_OK = 0,
-    X10_TABLE = 1,         /* the module table's length is not 2,080 */
+    X10_TABLE = 1,         /* the module table's length is not 3,104 */
     X10_MESSAGE = 2,       /* a house or unit above 15, a kind or function code that makes no message */
     X10_RECORD = 3,        /* the module table breaks a rule */
     X10_NOT_CARRIED = 4,   /* a message that tables do not carry */
@@ -66,7 +66,7 @@ static inline const char *x10_text(uint8_t number)
 {
     switch (number) {
     case X10_OK: return "done";
-    case X10_TABLE: return "TABLE: the module table's length is not 2,080";
+    case X10_TABLE: return "TABLE: the module table's length is not 3,104";
     case X10_MESSAGE: return "MESSAGE: house or unit above 15, or no message";
     case X10_RECORD: return "RECORD: the module table breaks a rule";
     case X10_NOT_CARRIED: return "NOT CARRIED: tables do not carry this message";
@@ -136,7 +136,7 @@ static inline const char *x10_function_name(uint8_t code)
 #define X10_STATION_BYTES 8
 #define X10_EVENT_BYTES 6
 #define X10_ANSWER_BYTES 8
-#define X10_TABLE_BYTES 2080
+#define X10_TABLE_BYTES 3104
 #define X10_SHUTTER_TABLE_BYTES 5120
 #define X10_MOST_STATIONS 16
 
@@ -178,23 +178,29 @@ uint64_t x10_radio_write(uint8_t command, uint8_t house, uint8_t unit, uint8_t *
  * of out; bytes beyond them stay. Count: 3. Refusals: 9, where out_len is below 3; 12, 13, 14. */
 uint64_t x10_radio_read(const uint8_t *code, size_t code_len, uint8_t *out, size_t out_len);
 
-/* A module table is 2,080 bytes: 256 records of 8 in order A1 to P16, then one "command heard" byte for
+/* A module table is 3,104 bytes: 256 records of 12 in order A1 to P16, then one "command heard" byte for
  * each house, then one byte for each house with the number of its modules above level 0, lamps and
  * appliances, which the routines keep. docs/TABLE.md says which values they take; all zeros is a table
  * with no module. A caller who writes levels into a table writes that byte to match. */
-#define X10_RECORD_BYTES 8
-#define X10_HEARD_AT 2048
-#define X10_LIT_AT 2064
+#define X10_RECORD_BYTES 12
+#define X10_HEARD_AT 3072
+#define X10_LIT_AT 3088
 
 /* A record's bytes: its kind; level 0 to 63; addressed 0 or 1; its groups, bit g for group g; four
- * presets, group 0 first. */
+ * presets, group 0 first; four references, group 0 first. The reference of a group that the module is a
+ * member of is 0 to 15, or X10_ABSOLUTE; of one that it is no member of, 0. */
 enum x10_record {
     X10_KIND_AT = 0,
     X10_LEVEL_AT = 1,
     X10_ADDRESSED_AT = 2,
     X10_GROUPS_AT = 3,
-    X10_PRESETS_AT = 4
+    X10_PRESETS_AT = 4,
+    X10_REFERENCES_AT = 8
 };
+
+/* The reference of an absolute member: each execution, off or step of its group reaches it. A member with
+ * a reference of 0 to 15 is reached only by those that are relative to that reference. */
+#define X10_ABSOLUTE 16
 
 enum x10_module { X10_NO_MODULE = 0, X10_LAMP = 1, X10_APPLIANCE = 2 };
 

@@ -2,6 +2,7 @@
 use Prim.Native.Nat.{ℕ}
 use mathlib.Core.Path.{_≡_}
 use mathlib.Core.List.{List, [], _∷_}
+use lib.ListN.{replicate}
 use Rattle.ground.specs.Refusals.{reports}
 use Rattle.message.specs.declared.Function.the-variants.{On, Dim, Bright}
 use Rattle.message.specs.declared.Message.{Message}
@@ -13,13 +14,15 @@ use Rattle.radio.specs.declared.RadioCommand.the-variants.{On as RadioOn, Off a
 use Rattle.plan.specs.Plans.{planAnswer}
 use Rattle.plan.specs.declared.Plan.{Plan}
 use Rattle.plan.specs.declared.Plan.the-variants.{Run, Move, Refused}
+use Rattle.record.specs.Layout.{GROUPS}
 use Rattle.record.specs.ModuleTable.{litOf, stepRecord}
 use Rattle.record.specs.declared.Record.{Record}
 
 -- an addressed module of this kind (1 lamp, 2 appliance) at this level, in no group
 abbrev pub moduleOf : ℕ → ℕ → Record
 moduleOf kind level =
-    record { kind = kind; level = level; addressed = 1; mask = 0; preset0 = 0; preset1 = 0; preset2 = 0; preset3 = 0 }
+    let none : List ℕ = replicate GROUPS 0 in
+    record { kind = kind; level = level; addressed = 1; groups = record { mask = 0; presets = none; references = none } }
 
 abbrev pub LAMP : ℕ
 LAMP = 1

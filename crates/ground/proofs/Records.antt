@@ -4,6 +4,7 @@
 --     sets-sets                                           two runs of stores that do not meet, in either order
 --     ends-before                                         the record of a place ends where that of a later one begins
 --     Apart, byte-put-own, byte-put-apart                 a byte after a record is put
+--     laid-by-bytes                                       a record that is made of its bytes one after the other lies as a layout says
 --     read-sound, put-own, put-other, put-as              the records after a record is put; what a record put is
 --     same-records                                        tables that are equal record by record are equal
 --     lent-records                                        LentRecords
@@ -31,9 +32,33 @@ use lib.Dec.{eqb}
 use lib.ListN.{length, getD, set, take, drop, length-set, length-drop}
 use lib.Seq.{sets, length-sets, getD-set-same, getD-set-other, set-comm, ext-getD, length-take-le, getD-take, getD-drop}
 use Rattle.ground.specs.Choice.{pick}
-use Rattle.ground.specs.Records.{Layout, putAt, stepEach, Stepped, allBelow, zeros, eachOk, sumBelow, differing, valueAt, LaidOut, Sound, RecordsLieApart}
-use Rattle.ground.specs.Records.{LentRecords}
+use Rattle.ground.specs.Records.{bytesAt, Layout, putAt, stepEach, Stepped, allBelow, zeros, eachOk, sumBelow, differing, valueAt}
+use Rattle.ground.specs.Records.{LaidOut, Sound, LentRecords}
 use Rattle.ground.proofs.Choices.{pick-both}
+use Rattle.ground.proofs.Lists.{bytes-length, bytes-at, bytes-same}
+
+-- ---- a layout
+
+-- a record whose bytes are those from its place on, and that is made of them alone
+pub laid-by-bytes : {R : Type 0} (L : Layout R) (n : ℕ) → L .size ≡ suc n
+    → ((t : List ℕ) (i : ℕ) → L .bytes (L .at t i) ≡ getD t (i * L .size) 0 ∷ bytesAt t (i * L .size) 1 n)
+    → ((t : List ℕ) (i : ℕ) → L .at t i ≡ L .at (getD t (i * L .size) 0 ∷ bytesAt t (i * L .size) 1 n) 0)
+    → LaidOut L
+laid-by-bytes {R} L n size bytes made = record { sized = sized; byte = byte; same = same }
+  where
+    sized : (t : List ℕ) (i : ℕ) → length (L .bytes (L .at t i)) ≡ L .size
+    sized t i = ap length (bytes t i) ∙ ap suc (bytes-length t (i * L .size) 1 n) ∙ sym size
+
+    byte : (t : List ℕ) (i k : ℕ) → k < L .size → getD t (i * L .size + k) 0 ≡ getD (L .bytes (L .at t i)) k 0
+    byte t i zero h = rw (bytes t i, add-zero (i * L .size))
+    byte t i (suc k) h =
+        rw (bytes t i) (sym (bytes-at t (i * L .size) 1 n k (omega arith) ∙ ap (λ (j : ℕ). getD t (i * L .size + j) 0) (suc-add 0 k ∙ ap suc (zero-add k))))
+
+    same : (t u : List ℕ) (i j : ℕ) → ((k : ℕ) → k < L .size → getD t (i * L .size + k) 0 ≡ getD u (j * L .size + k) 0) → L .at t i ≡ L .at u j
+    same t u i j e =
+        let first : getD t (i * L .size) 0 ≡ getD u (j * L .size) 0 = simp add-zero at (e 0 (omega arith)) in
+        let rest = bytes-same t u (i * L .size) (j * L .size) 1 n (λ k h. e (1 + k) (omega arith)) in
+        made t i ∙ ap₂ (λ (x : ℕ) (xs : List ℕ). L .at (x ∷ xs) 0) first rest ∙ sym (made u j)
 
 -- ---- a run of stores
 

@@ -3,11 +3,16 @@
 use Prim.Native.Nat.{ℕ, zero, suc, _+_, _*_, _≤_, _<_}
 use mathlib.Core.Path.{_≡_}
 use mathlib.Core.Bool.{Bool, true, _&&_}
-use mathlib.Core.List.{List}
+use mathlib.Core.List.{List, [], _∷_}
 use lib.Dec.{eqb}
 use lib.ListN.{length, getD}
 use lib.Seq.{sets}
 use Rattle.ground.specs.Choice.{pick}
+
+-- n bytes from place at + k on, with 0 beyond the end: at a numeral k and n it is written out
+abbrev pub bytesAt : List ℕ → ℕ → ℕ → ℕ → List ℕ
+bytesAt t at k zero = []
+bytesAt t at k (suc n) = getD t (at + k) 0 ∷ bytesAt t at (suc k) n
 
 -- how the records of a kind lie: the size of one in bytes, the record at place i, and the bytes of a record
 pub record Layout (R : Type 0) : Type 0 where

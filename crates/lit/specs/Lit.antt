@@ -12,7 +12,7 @@ use Rattle.ground.specs.declared.Refusal.the-variants as refusal
 use Rattle.record.specs.Layout.{TABLE-BYTES, HOUSES, RECORDS, recordAt, litByte}
 use Rattle.record.specs.ModuleTable.{tableOk, litIn}
 
--- "1 now speaks of 2,080"; "MESSAGE: house .. above 15"; "it reads that byte alone and gives 3 only above 16"
+-- "1 speaks of 3,104" (02, A5); "MESSAGE: house .. above 15"; "it reads that byte alone and gives 3 only above 16"
 abbrev pub litCauses : ℕ → List ℕ → List Cause
 litCauses h t =
     unless (eqb (length t) TABLE-BYTES) refusal.Table
@@ -20,7 +20,7 @@ litCauses h t =
     ∷ unless (leb (litByte t h) 16) refusal.Record
     ∷ []
 
--- the answer: the byte at 2,064 + h, whatever else the table holds
+-- the answer: the byte at 3,088 + h, whatever else the table holds
 unfoldable pub litAnswer : ℕ → List ℕ → CountAnswer
 litAnswer h t = judged (litCauses h t) (Done (litByte t h)) Refused
 

@@ -26,7 +26,7 @@ use Rattle.record.specs.declared.House.{House}
 use Rattle.record.specs.Layout.{RECORD-BYTES, UNITS, HOUSES, RECORDS, HEARD-AT, LIT-AT, TABLE-BYTES, recordAt, modules, houseAt}
 use Rattle.record.specs.ModuleTable.{recordOk, litIn, houseOk, recordsOk, housesOk, tableOk, stepRecord, houseAfter, runAct}
 use Rattle.record.proofs.RecordLaws.{record-stays-valid, house-stays-valid}
-use Rattle.module_table.proofs.TableLaws.{modules-laid, step-keeps, length-put-house, byte-put-house, record-put-house}
+use Rattle.module_table.proofs.TableLaws.{modules-laid, read-four, step-keeps, length-put-house, byte-put-house, record-put-house}
 use Rattle.module_table.proofs.TableLaws.{house-put-own, house-put-other, lit-ext, lit-put-house}
 
 -- ---- a house's records stepped
@@ -53,7 +53,7 @@ module _ (a : Act) (own : House) (h : ℕ) (t : List ℕ) where
     where
       go : (k : ℕ) → k < UNITS → Dec (j < (h * UNITS + k) * RECORD-BYTES) → Apart modules (h * UNITS + k) j
       go k hk (yes before) = inl before
-      go k hk (no behind) = inr (let low : h * 128 ≤ j = omega arith in let other′ : j / 128 ≡ h → ⊥ = other in omega arith)
+      go k hk (no behind) = inr (let low : h * 192 ≤ j = omega arith in let other′ : j / 192 ≡ h → ⊥ = other in omega arith)
 
   -- a byte behind the records
   step-behind : (j : ℕ) → h < HOUSES → HEARD-AT ≤ j → getD stepped j 0 ≡ getD t j 0
@@ -149,7 +149,7 @@ module _ (a : Act) (h : ℕ) (t : List ℕ) (house : h < HOUSES) (ok : tableOk t
   records-stay i below =
       let before = below-at (λ k. recordOk (recordAt t k)) RECORDS (whole t ok .records) i below in
       rw (run-record a h t i below (whole t ok .size))
-      (pick-both (λ r. recordOk r ≡ true) (eqb (i / UNITS) h) _ _ (record-stays-valid a (houseAt t h) (i % UNITS) (recordAt t i) before) before)
+      (pick-both (λ r. recordOk r ≡ true) (eqb (i / UNITS) h) _ _ (record-stays-valid a (houseAt t h) (i % UNITS) (recordAt t i) (read-four t i) before) before)
 
   houses-stay : (g : ℕ) → g < HOUSES → houseOk (litIn (runAct a h t) g) (houseAt (runAct a h t) g) ≡ true
   houses-stay g below = go (ℕ-discrete g h)

@@ -22,7 +22,7 @@ use Rattle.record.specs.declared.House.{House}
 use Rattle.record.specs.Layout.{UNITS, HOUSES, RECORDS, TABLE-BYTES, recordAt, modules, houseAt}
 use Rattle.record.specs.ModuleTable.{litIn, stepRecord, houseAfter, runAct, levelOf, changed}
 use Rattle.module_table.specs.ModuleRuns.{actCauses, actAnswer, modulesAfter, ActLowest}
-use Rattle.module_table.proofs.TableLaws.{modules-laid, record-sound, step-keeps, record-put-house, changed-ext, changed-none}
+use Rattle.module_table.proofs.TableLaws.{modules-laid, step-keeps, step-sound, record-put-house, changed-ext, changed-none}
 use Rattle.module_table.proofs.HouseLaws.{stepped}
 
 pub act-lowest : ActLowest
@@ -56,7 +56,7 @@ module _ (a : Act) (own : House) (h : ℕ) (t : List ℕ) (house : h < HOUSES) (
       let same = eqb (recordAt s i .level) (r .level) in
       let one : pick same 0 1 ≤ 1 = one-at-most same in
       let few = step-changed n (omega arith) in
-      rw (differing-put modules levelOf modules-laid RECORDS i t s r (record-sound r) (omega arith) (omega arith) ahead) (omega arith)
+      rw (differing-put modules levelOf modules-laid RECORDS i t s r (step-sound a own n i s) (omega arith) (omega arith) ahead) (omega arith)
 
 pub run-changed : (a : Act) (h : ℕ) (t : List ℕ) → h < HOUSES → length t ≡ TABLE-BYTES → changed t (runAct a h t) ≤ UNITS
 unfolding runAct

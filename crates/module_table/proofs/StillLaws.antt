@@ -15,16 +15,18 @@ use lib.Dec.{eqb, leb}
 use lib.ListN.{length, getD, set, length-set}
 use lib.Seq.{getD-set-same, getD-set-other}
 use Rattle.ground.specs.Choice.{pick}
-use Rattle.ground.specs.Records.{Stepped}
+use Rattle.ground.specs.Records.{bytesAt, Stepped}
 use Rattle.ground.proofs.Choices.{pick-both}
+use Rattle.ground.proofs.Lists.{bytes-same}
 use Rattle.ground.proofs.Records.{Apart, put-as}
 use Rattle.plan.specs.declared.Act.{Act}
 use Rattle.plan.specs.declared.Act.the-variants.{Address}
 use Rattle.record.specs.declared.Record.{Record}
+use Rattle.record.specs.declared.Groups.{Groups}
 use Rattle.record.specs.declared.House.{House}
-use Rattle.record.specs.Layout.{RECORD-BYTES, RECORDS, TABLE-BYTES, recordAt, modules, put, present, withLevel, withAddressed}
+use Rattle.record.specs.Layout.{GROUPS, RECORD-BYTES, RECORDS, TABLE-BYTES, recordAt, modules, put, present, withLevel, withAddressed, withGroups}
 use Rattle.record.specs.ModuleTable.{relevel, addressed, acted, stepRecord, levelOf}
-use Rattle.record.specs.Parts.{keepsGroups, groupsOf}
+use Rattle.record.specs.Parts.{keepsGroups}
 use Rattle.record.proofs.RecordLaws.{groups-kept, rest-kept, level-kept}
 use Rattle.module_table.specs.Reaches.{mayChange, Spares}
 use Rattle.module_table.specs.declared.Reach.{Reach}
@@ -85,16 +87,14 @@ put-two : (t : List ℕ) (i x y : ℕ) → length t ≡ TABLE-BYTES → i < RECO
 unfolding recordAt
 put-two t i x y whole low =
     let stored : recordAt u i ≡ withLevel x (withAddressed y (recordAt t i)) =
-    simp (
+    rw (
       other at (λ e. omega arith) (λ e. omega arith),
       getD-set-other (set t (at + 1) x) (at + 2) (at + 1) y 0 (λ e. omega arith),
       getD-set-same t (at + 1) x 0 (omega arith),
       getD-set-same (set t (at + 1) x) (at + 2) y 0 (omega (arith, length-set t (at + 1) x)),
       other (at + 3) (λ e. omega arith) (λ e. omega arith),
-      other (at + 4) (λ e. omega arith) (λ e. omega arith),
-      other (at + 5) (λ e. omega arith) (λ e. omega arith),
-      other (at + 6) (λ e. omega arith) (λ e. omega arith),
-      other (at + 7) (λ e. omega arith) (λ e. omega arith),
+      behind 4 (omega arith),
+      behind 8 (omega arith),
     ) in
     ap (λ (s : Record). put t i s) (sym stored)
     ∙ put-as modules modules-laid t u i (omega arith) (length-set (set t (at + 1) x) (at + 2) y ∙ length-set t (at + 1) x)
@@ -108,6 +108,10 @@ put-two t i x y whole low =
 
     other : (j : ℕ) → (j ≡ at + 1 → ⊥) → (j ≡ at + 2 → ⊥) → getD u j 0 ≡ getD t j 0
     other j one two = getD-set-other (set t (at + 1) x) (at + 2) j y 0 two ∙ getD-set-other t (at + 1) j x 0 one
+
+    -- four bytes behind them
+    behind : (k : ℕ) → 4 ≤ k → bytesAt u at k GROUPS ≡ bytesAt t at k GROUPS
+    behind k far = bytes-same u t at at k GROUPS (λ j below. other (at + (k + j)) (λ e. omega arith) (λ e. omega arith))
 
     beyond : (j : ℕ) → Apart modules i j → (at ≤ j) × (j < at + RECORD-BYTES) → ⊥
     beyond j = ⊎-elim (λ before within. omega arith) (λ behind within. omega arith)
@@ -145,14 +149,14 @@ module _ (a : Act) (own : House) (n i : ℕ) (t : List ℕ) (whole : length t �
         }
 
     -- by one that does not: no level changes
-    pub regrouped : (v : Record) (u : List ℕ) → keepsGroups a ≡ false → v ≡ groupsOf (stepRecord a own n s) s → u ≡ put t i v
+    pub regrouped : (of : Groups) (u : List ℕ) → keepsGroups a ≡ false → of ≡ stepRecord a own n s .groups → u ≡ put t i (withGroups of s)
         → Stepped modules levelOf (stepRecord a own n) i t u 0
-    regrouped v u leaves groups stored =
-        let same : v ≡ stepRecord a own n r =
-        groups ∙ ap (λ (q : Record). groupsOf (stepRecord a own n q) q) read ∙ ap (λ (q : Record). groupsOf q r) (there a own n r here)
-        ∙ rest-kept a own n r leaves ∙ sym (there a own n r here) in
-        let level : stepRecord a own n r .level ≡ r .level =
-        ap (λ (q : Record). q .level) (there a own n r here) ∙ level-kept a own n r leaves in
+    regrouped of u leaves groups stored =
+        let is = there a own n r here in
+        let same : withGroups of s ≡ stepRecord a own n r =
+        ap (λ (q : Groups). withGroups q s) groups ∙ ap (λ (q : Record). withGroups (stepRecord a own n q .groups) q) read
+        ∙ ap (λ (q : Record). withGroups (q .groups) r) is ∙ rest-kept a own n r leaves ∙ sym is in
+        let level : stepRecord a own n r .level ≡ r .level = ap (λ (q : Record). q .level) is ∙ level-kept a own n r leaves in
         record {
           table = stored ∙ ap (λ (q : Record). put t i q) same;
           count = sym (ap (λ (b : Bool). pick b 0 1) (eq-eqb (r .level) (stepRecord a own n r .level) (sym level)));

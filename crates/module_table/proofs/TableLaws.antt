@@ -1,9 +1,10 @@
 -- Laws of a module table's bytes: how the records lie in them, the houses' own bytes beside them, and an act run. What holds of any table of
 -- records is in ground's Records.
 --
---     record-ext, byte-of-record                        a record is made of its eight bytes, and they are its bytes
---     modules-laid, record-sound                        so what holds of any table of records holds of a module table's
---     step-keeps                                        and every act keeps to it
+--     modules-laid, record-sound                        what holds of any table of records holds of a module table's
+--     preset-at, reference-at, judged-group, read-four                a record's presets and references, from where they lie
+--     step-keeps, step-sound                            every act keeps to it
+--     four-stored, stored                               a record put by its parts
 --     zeros-ok, zeros-dark                              a record of zeros keeps the rules, at level 0
 --     length-put-house, byte-put-house, record-put-house, house-put-own, house-put-other       records and houses' own bytes do not meet
 --     lit-ext, lit-put-house                            the number of lit modules is made of the records alone
@@ -11,70 +12,104 @@
 --     by-houses                                         a table is judged house by house
 --     changed-ext, changed-none                         ground's laws, of the count of changed levels
 --     ran                                               an act run on a table
-use mathlib.Core.Path.{_≡_, refl, sym, ap, ap₂, _∙_}
+use mathlib.Core.Path.{_≡_, refl, sym, ap, ap₂, subst, _∙_}
 use mathlib.Core.Bool.{Bool, true, _&&_, and-assoc, and-comm}
 use mathlib.Core.List.{List, []}
-use Prim.Native.Nat.{ℕ, zero, suc, _+_, _*_, _≤_, _<_}
-use native.Mathlib.Nat.{add-zero}
-use native.Mathlib.Numerals.{add-one}
+use Prim.Native.Nat.{ℕ, _+_, _*_, _≤_, _<_}
+use native.Mathlib.Nat.{add-assoc}
+use native.Mathlib.Numerals.{add-one, towards-suc}
 use native.Mathlib.Omega.{arith}
 use lib.ListN.{length, getD, set, length-set}
-use lib.Seq.{getD-set-same, getD-set-other}
+use lib.Seq.{sets, getD-set-same, getD-set-other}
 use lib.Dec.{eqb}
 use Rattle.ground.specs.Choice.{pick}
-use Rattle.ground.specs.Records.{Sound, stepEach, allBelow, eachOk, sumBelow}
-use Rattle.ground.proofs.Records.{put-other, below-at, below-and, below-runs, sum-ext, sum-none, differing-ext, differing-none}
+use Rattle.ground.specs.Records.{bytesAt, Sound, stepEach, allBelow, eachOk, sumBelow}
+use Rattle.ground.proofs.Lists.{sets-append, bytes-at, bytes-whole, sets-bytes}
+use Rattle.ground.proofs.Records.{laid-by-bytes, put-other, below-at, below-and, below-runs, sum-ext, sum-none, differing-ext, differing-none}
+use Rattle.plan.specs.Plans.{bit}
 use Rattle.plan.specs.declared.Act.{Act}
-use Rattle.record.specs.Layout.{RECORD-BYTES, UNITS, HOUSES, RECORDS, HEARD-AT, LIT-AT, TABLE-BYTES}
-use Rattle.record.specs.Layout.{recordAt, recordBytes, modules, put, litByte, houseAt, putHouse}
-use Rattle.record.specs.ModuleTable.{recordOk, heardOk, litOf, litTo, litIn, litOk, recordsOk, housesOk, stepRecord, houseAfter, runAct, levelOf, changed}
+use Rattle.record.specs.Layout.{GROUPS, RECORD-BYTES, UNITS, HOUSES, RECORDS, HEARD-AT, LIT-AT, TABLE-BYTES}
+use Rattle.record.specs.Layout.{recordAt, recordBytes, modules, put, litByte, houseAt, putHouse, member, preset, reference, withGroups}
+use Rattle.record.specs.ModuleTable.{groupOk, recordOk, heardOk, litOf, litTo, litIn, litOk, recordsOk, housesOk, stepRecord, houseAfter}
+use Rattle.record.specs.ModuleTable.{runAct, levelOf, changed}
+use Rattle.record.specs.Statements.{FourEach}
 use Rattle.record.specs.declared.Record.{Record}
 use Rattle.record.specs.declared.House.{House}
+use Rattle.record.proofs.RecordLaws.{stays-four}
 use Rattle.module_table.specs.ModuleRuns.{ModulesLaid, ModulesSound}
 use Rattle.module_table.specs.Units.{unitsOk}
 
 -- ---- how the records lie
 
-pub record-ext : (t u : List ℕ) (i j : ℕ) → ((k : ℕ) → k < RECORD-BYTES → getD t (i * RECORD-BYTES + k) 0 ≡ getD u (j * RECORD-BYTES + k) 0)
-    → recordAt t i ≡ recordAt u j
-unfolding recordAt
-record-ext t u i j e =
-    let first : getD t (i * RECORD-BYTES) 0 ≡ getD u (j * RECORD-BYTES) 0 = simp add-zero at (e 0 (omega arith)) in
-    simp (
-      first,
-      e 1 (omega arith),
-      e 2 (omega arith),
-      e 3 (omega arith),
-      e 4 (omega arith),
-      e 5 (omega arith),
-      e 6 (omega arith),
-      e 7 (omega arith),
-    )
-
-pub byte-of-record : (t : List ℕ) (i k : ℕ) → k < RECORD-BYTES → getD t (i * RECORD-BYTES + k) 0 ≡ getD (recordBytes (recordAt t i)) k 0
-unfolding recordAt
-byte-of-record t i zero h = ap (λ (j : ℕ). getD t j 0) (add-zero (i * RECORD-BYTES))
-byte-of-record t i (suc zero) h = refl
-byte-of-record t i (suc (suc zero)) h = refl
-byte-of-record t i (suc (suc (suc zero))) h = refl
-byte-of-record t i (suc (suc (suc (suc zero)))) h = refl
-byte-of-record t i (suc (suc (suc (suc (suc zero))))) h = refl
-byte-of-record t i (suc (suc (suc (suc (suc (suc zero)))))) h = refl
-byte-of-record t i (suc (suc (suc (suc (suc (suc (suc zero))))))) h = refl
-byte-of-record t i (suc (suc (suc (suc (suc (suc (suc (suc k)))))))) h = absurd (omega arith)
-
 pub modules-laid : ModulesLaid
-modules-laid = record { sized = λ t i. refl; byte = byte-of-record; same = record-ext }
+unfolding recordAt
+modules-laid = laid-by-bytes modules 11 refl (λ t i. refl) (λ t i. refl)
+
+-- the presets and references, from where they lie
+pub preset-at : (t : List ℕ) (i g : ℕ) → g < GROUPS → preset g (recordAt t i) ≡ getD t (i * RECORD-BYTES + 4 + g) 0
+unfolding recordAt
+preset-at t i g h = bytes-at t (i * RECORD-BYTES) 4 GROUPS g h ∙ ap (λ (n : ℕ). getD t n 0) (sym (add-assoc (i * RECORD-BYTES) 4 g))
+
+pub reference-at : (t : List ℕ) (i g : ℕ) → g < GROUPS → reference g (recordAt t i) ≡ getD t (i * RECORD-BYTES + 8 + g) 0
+unfolding recordAt
+reference-at t i g h = bytes-at t (i * RECORD-BYTES) 8 GROUPS g h ∙ ap (λ (n : ℕ). getD t n 0) (sym (add-assoc (i * RECORD-BYTES) 8 g))
+
+-- what `groups_ok` asks of group g
+pub judged-group : (t : List ℕ) (i g : ℕ) → g < GROUPS
+    → let at = i * RECORD-BYTES in let r = recordAt t i in
+    groupOk (getD t at 0) (bit g (getD t (at + 3) 0)) (getD t (at + 4 + g) 0) (getD t (at + 8 + g) 0)
+    ≡ groupOk (r .kind) (member g r) (preset g r) (reference g r)
+unfolding recordAt
+judged-group t i g h =
+    ap₂ (λ (x s : ℕ). groupOk (getD t (i * RECORD-BYTES) 0) (bit g (getD t (i * RECORD-BYTES + 3) 0)) x s)
+    (sym (preset-at t i g h)) (sym (reference-at t i g h))
+
+pub read-four : (t : List ℕ) (i : ℕ) → FourEach (recordAt t i)
+unfolding recordAt
+read-four t i = (refl, refl)
 
 pub record-sound : ModulesSound
 unfolding recordAt
-record-sound r = record { size = refl; back = refl }
+record-sound r four = subst (λ (x : Record). Sound modules x) same (record { size = refl; back = refl })
+  where
+    presets : List ℕ
+    presets = bytesAt (r .groups .presets) 0 0 GROUPS
+
+    references : List ℕ
+    references = bytesAt (r .groups .references) 0 0 GROUPS
+
+    s : Record
+    s = withGroups (record { mask = r .groups .mask; presets = presets; references = references }) r
+
+    same : s ≡ r
+    same = rw (bytes-whole (r .groups .presets) GROUPS (four .0), bytes-whole (r .groups .references) GROUPS (four .1))
 
 pub step-keeps : (a : Act) (own : House) (k : ℕ) (r : Record) → Sound modules r → Sound modules (stepRecord a own k r)
-step-keeps a own k r sound = record-sound (stepRecord a own k r)
+step-keeps a own k r sound =
+    record-sound (stepRecord a own k r) (stays-four a own k r (subst FourEach (sound .back) (read-four (recordBytes r) 0)))
+
+-- a record that is read and stepped
+pub step-sound : (a : Act) (own : House) (k i : ℕ) (t : List ℕ) → Sound modules (stepRecord a own k (recordAt t i))
+step-sound a own k i t = record-sound (stepRecord a own k (recordAt t i)) (stays-four a own k (recordAt t i) (read-four t i))
+
+-- ---- a record stored
+
+-- four bytes, one after the other
+pub four-stored : (t : List ℕ) (at : ℕ) (xs : List ℕ) → length xs ≡ GROUPS
+    → set (set (set (set t at (getD xs 0 0)) (at + 1) (getD xs 1 0)) (at + 2) (getD xs 2 0)) (at + 3) (getD xs 3 0) ≡ sets t at xs
+four-stored t at xs four = simp towards-suc (sets-bytes t at xs GROUPS four)
+
+-- four bytes, the presets and the references
+pub stored : (t : List ℕ) (at : ℕ) (r : Record) → length (r .groups .presets) ≡ GROUPS
+    → sets (sets (set (set (set (set t at (r .kind)) (at + 1) (r .level)) (at + 2) (r .addressed)) (at + 3) (r .groups .mask)) (at + 4) (r .groups .presets))
+    (at + 8) (r .groups .references)
+    ≡ sets t at (recordBytes r)
+stored t at r four =
+    let place : at + 8 ≡ at + 4 + length (r .groups .presets) = omega arith in
+    rw place (sym (sets-append _ (at + 4) (r .groups .presets) (r .groups .references)) ∙ simp towards-suc)
 
 pub zeros-ok : recordOk (recordAt [] 0) ≡ true
-unfolding recordOk recordAt
+unfolding recordOk recordAt allBelow
 zeros-ok = refl
 
 pub zeros-dark : eqb (recordAt [] 0 .level) 0 ≡ true
@@ -94,7 +129,7 @@ byte-put-house t h k own heard lit =
 
 pub record-put-house : (t : List ℕ) (i h : ℕ) (own : House) → i < RECORDS → recordAt (putHouse t h own) i ≡ recordAt t i
 record-put-house t i h own hi =
-    record-ext (putHouse t h own) t i i (λ k hk. byte-put-house t h (i * RECORD-BYTES + k) own (λ e. omega arith) (λ e. omega arith))
+    modules-laid .same (putHouse t h own) t i i (λ k hk. byte-put-house t h (i * RECORD-BYTES + k) own (λ e. omega arith) (λ e. omega arith))
 
 pub house-put-own : (t : List ℕ) (h : ℕ) (own : House) → h < HOUSES → length t ≡ TABLE-BYTES → houseAt (putHouse t h own) h ≡ own
 unfolding houseAt putHouse
@@ -126,11 +161,11 @@ unfolding sumBelow
 lit-next t h n lit more so-far last = rw (add-one) (ap₂ _+_ so-far last)
 
 -- and those before it are as they were, where its record is put
-pub lit-put : (t u : List ℕ) (h n : ℕ) (r : Record) → u ≡ put t (h * UNITS + n) r → litTo t h n ≡ litTo u h n
-lit-put t u h n r stored =
+pub lit-put : (t u : List ℕ) (h n : ℕ) (r : Record) → Sound modules r → u ≡ put t (h * UNITS + n) r → litTo t h n ≡ litTo u h n
+lit-put t u h n r sound stored =
     lit-ext t u h n
     (λ k below. sym (ap (λ (l : List ℕ). recordAt l (h * UNITS + k)) stored
-    ∙ put-other modules modules-laid t (h * UNITS + n) (h * UNITS + k) r (record-sound r) (λ e. omega arith)))
+    ∙ put-other modules modules-laid t (h * UNITS + n) (h * UNITS + k) r sound (λ e. omega arith)))
 
 -- none where each level is 0
 pub lit-none : (t : List ℕ) (h n : ℕ) → eachOk modules (λ r. eqb (r .level) 0) (h * UNITS) n t ≡ true → litTo t h n ≡ 0

@@ -1,3 +1,4 @@
 pub mod ModuleRuns
 pub mod Reaches
 pub mod Units
+pub mod Quick

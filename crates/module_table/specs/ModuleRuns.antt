@@ -14,8 +14,9 @@ use Rattle.plan.specs.declared.Act.{Act}
 use Rattle.record.specs.declared.Record.{Record}
 use Rattle.record.specs.Layout.{TABLE-BYTES, modules}
 use Rattle.record.specs.ModuleTable.{runAct, changed}
+use Rattle.record.specs.Statements.{FourEach}
 
--- TABLE: "1 now speaks of 2,080" (02, A3); "MESSAGE: house .. above 15"
+-- TABLE: "1 speaks of 3,104" (02, A5); "MESSAGE: house .. above 15"
 abbrev pub actCauses : ℕ → List ℕ → List Cause
 actCauses h t = unless (eqb (length t) TABLE-BYTES) refusal.Table ∷ unless (leb h 15) refusal.Message ∷ []
 
@@ -31,9 +32,9 @@ modulesAfter a h t = judged (actCauses h t) (runAct a h t) (λ why. t)
 abbrev pub ModulesLaid : Type 0
 ModulesLaid = LaidOut modules
 
--- and so does every record that is put there
+-- and so does every record with four presets and four references that is put there
 abbrev pub ModulesSound : Type 0
-ModulesSound = (r : Record) → Sound modules r
+ModulesSound = (r : Record) → FourEach r → Sound modules r
 
 -- "Within one routine the lowest number that applies is given.": proofs/Runs.antt
 abbrev pub ActLowest : Type 0

@@ -5,6 +5,10 @@ use ground::count_of;
 use ground::zeros;
 use message::Function;
 use plan::Act;
+use plan::bit_of;
+use quick::quick_each;
+use record::GROUPS;
+use record::Groups;
 use record::HEARD_AT;
 use record::HOUSES;
 use record::House;
@@ -13,6 +17,8 @@ use record::RECORD_BYTES;
 use record::Record;
 use record::TABLE_BYTES;
 use record::UNITS;
+use record::fields_valid;
+use record::group_valid;
 use record::heard_valid;
 use record::step::addressed_after;
 use record::step::groups_after;
@@ -21,21 +27,33 @@ use record::step::keeps_groups;
 use record::step::level_after;
 ghost use mathlib.Core.Path.{_≡_};
 ghost use mathlib.Core.Bool.{true, false};
-ghost use Prim.Native.Nat.{ℕ, _*_, _≤_, _<_};
+ghost use Prim.Native.Nat.{ℕ, _+_, _*_, _≤_, _<_};
 ghost use lib.ListN.{length};
+ghost use lib.Seq.{sets};
 ghost use Rattle.ground.specs.Choice.{pick};
-ghost use Rattle.ground.specs.Records.{stepEach, Stepped, allBelow, eachOk};
+ghost use Rattle.ground.specs.Records.{bytesAt, stepEach, Stepped, allBelow, eachOk};
 ghost use Rattle.record.specs.declared.Record.{Record};
 ghost use Rattle.record.specs.declared.House.{House};
-ghost use Rattle.record.specs.Layout.{RECORDS, HOUSES, UNITS, TABLE-BYTES, present, recordAt, modules, put, houseAt, putHouse};
-ghost use Rattle.record.specs.ModuleTable.{recordOk, heardOk, litOf, litIn, tableOk, obeyed, stepRecord, levelOf, runAct, changed};
+ghost use Rattle.record.specs.Layout.{GROUPS, RECORD-BYTES, RECORDS, HOUSES, UNITS, TABLE-BYTES};
+ghost use Rattle.record.specs.Layout.{present, recordAt, modules, put, houseAt, putHouse};
+ghost use Rattle.record.specs.ModuleTable.{groupsOk, recordOk, heardOk, litOf, litIn, tableOk, obeyed, stepRecord, levelOf, runAct, changed};
 ghost use Rattle.record.specs.Parts.{keepsGroups};
 ghost use Rattle.module_table.specs.ModuleRuns.{actAnswer, modulesAfter};
 ghost use Rattle.module_table.specs.Units.{unitsOk};
 ghost use Rattle.module_table.specs.Reaches.{mayChange, Spares};
 
+mod quick;
+
 // The bytes of a house's records.
 const UNITS_BYTES: usize = UNITS * RECORD_BYTES;
+
+// Four bytes of a table, from place at + k on.
+fn four_at(t: &[u8], at: usize, k: usize) -> [u8; GROUPS]
+    requires { ⌜ (length (now t) ≡ TABLE-BYTES) × (at + RECORD-BYTES ≤ TABLE-BYTES) × (k ≤ 8) ⌝ }
+    ensures { λ r. ⌜ r ≡ bytesAt (now (t .entry)) at k GROUPS ⌝ }
+{
+    [t[at + k], t[at + (k + 1)], t[at + (k + 2)], t[at + (k + 3)]]
+}
 
 // Record i of a table.
 fn load(t: &[u8], i: usize) -> Record
@@ -43,16 +61,28 @@ fn load(t: &[u8], i: usize) -> Record
     ensures { λ r. ⌜ r ≡ recordAt (now (t .entry)) i ⌝ }
 {
     let at = i * RECORD_BYTES;
+    let groups = Groups {
+        mask: t[at + 3],
+        presets: four_at(t, at, 4),
+        references: four_at(t, at, 8),
+    };
     Record {
         kind: t[at],
         level: t[at + 1],
         addressed: t[at + 2],
-        mask: t[at + 3],
-        preset0: t[at + 4],
-        preset1: t[at + 5],
-        preset2: t[at + 6],
-        preset3: t[at + 7],
+        groups: groups,
     }
+}
+
+// Puts four bytes at a place of a table, and says that they are four.
+fn put_four(t: &mut [u8], at: usize, xs: [u8; GROUPS])
+    requires { ⌜ (length (now t) ≡ TABLE-BYTES) × (at + GROUPS ≤ TABLE-BYTES) ⌝ }
+    ensures { λ _. ⌜ (now (t .exit) ≡ sets (now (t .entry)) at xs) × (length xs ≡ GROUPS) ⌝ }
+{
+    t[at] = xs[0];
+    t[at + 1] = xs[1];
+    t[at + 2] = xs[2];
+    t[at + 3] = xs[3];
 }
 
 // Puts a record at place i of a table.
@@ -61,14 +91,15 @@ fn store(t: &mut [u8], i: usize, r: Record)
     ensures { λ _. ⌜ now (t .exit) ≡ put (now (t .entry)) i r ⌝ }
 {
     let at = i * RECORD_BYTES;
+    let groups = r.groups;
+    let presets = groups.presets;
+    let references = groups.references;
     t[at] = r.kind;
     t[at + 1] = r.level;
     t[at + 2] = r.addressed;
-    t[at + 3] = r.mask;
-    t[at + 4] = r.preset0;
-    t[at + 5] = r.preset1;
-    t[at + 6] = r.preset2;
-    t[at + 7] = r.preset3;
+    t[at + 3] = groups.mask;
+    put_four(t, at + 4, presets);
+    put_four(t, at + 8, references);
 }
 
 // The bytes of a house beside its records': in this crate they are read here, and written below, and nowhere else.
@@ -90,22 +121,37 @@ fn put_house(t: &mut [u8], house: usize, own: House)
     t[LIT_AT + house] = own.lit;
 }
 
-// Whether record i of a table keeps the rules.
+// Whether the presets and references of record i keep the rules. The four are tested straight from the bytes and with no early way out.
+fn groups_ok(t: &[u8], i: usize) -> bool
+    requires { ⌜ (length (now t) ≡ TABLE-BYTES) × (i < RECORDS) ⌝ }
+    ensures { λ r. ⌜ r ≡ groupsOk GROUPS (recordAt (now (t .entry)) i) ⌝ }
+{
+    let at = i * RECORD_BYTES;
+    let mut ok = true;
+    let mut g: usize = 0;
+    while g < GROUPS {
+        ok = ok
+            & group_valid(
+                t[at],
+                bit_of(g as u8, t[at + 3]),
+                t[at + 4 + g],
+                t[at + 8 + g],
+            );
+        g += 1;
+    }
+    ok
+}
+
+// Whether record i of a table keeps the rules. An absent module that is in no group has no preset and no reference by the rules of groups, so
+// that these are not looked at again.
 fn record_ok(t: &[u8], i: usize) -> bool
     requires { ⌜ (length (now t) ≡ TABLE-BYTES) × (i < RECORDS) ⌝ }
     ensures { λ r. ⌜ r ≡ recordOk (recordAt (now (t .entry)) i) ⌝ }
 {
     let at = i * RECORD_BYTES;
-    record::valid(
-        t[at],
-        t[at + 1],
-        t[at + 2],
-        t[at + 3],
-        t[at + 4],
-        t[at + 5],
-        t[at + 6],
-        t[at + 7],
-    )
+    let fields = fields_valid(t[at], t[at + 1], t[at + 2], t[at + 3]);
+    let bare = (t[at + 1] == 0) & (t[at + 2] == 0) & (t[at + 3] == 0);
+    fields & groups_ok(t, i) & (!(t[at] == 0) | bare)
 }
 
 // 1 where the module of record i is above level 0, else 0.
@@ -141,7 +187,7 @@ fn judge_each(t: &[u8], house: usize) -> Judged
 }
 
 // Whether each record of a house keeps the rules, and whether its byte says how many modules are lit. The records of a house with no module
-// are passed over.
+// are passed over, and where the quick test finds no fault the exact one is not asked.
 fn units_ok(t: &[u8], house: usize) -> bool
     requires { ⌜ (length (now t) ≡ TABLE-BYTES) × (house < HOUSES) ⌝ }
     ensures { λ r. ⌜ r ≡ unitsOk (now (t .entry)) house ⌝ }
@@ -150,6 +196,10 @@ fn units_ok(t: &[u8], house: usize) -> bool
     let from = house * UNITS_BYTES;
     if zeros(&t[from..from + UNITS_BYTES]) {
         return own.lit == 0;
+    }
+    let quick = quick_each(t, house);
+    if quick.ok {
+        return own.lit == quick.lit as u8;
     }
     let each = judge_each(t, house);
     each.ok & (own.lit == each.lit as u8)
@@ -253,7 +303,11 @@ fn reach_of(act: Act, own: House) -> Reach
         Act::Nothing => reaching(255, 2),
         Act::Address { unit } => reaching(unit, address_floor(own.heard == 1)),
         Act::Obey(f) => reach_by(f),
-        Act::Join { unit, group: _ } => reaching(unit, 2),
+        Act::Join {
+            unit,
+            group: _,
+            reference: _,
+        } => reaching(unit, 2),
         Act::Level { unit, level: _ } => reaching(unit, 2),
         Act::JoinAt {
             unit,
@@ -264,10 +318,11 @@ fn reach_of(act: Act, own: House) -> Reach
         Act::UnitsOff => reaching(255, 0),
         Act::Leave { unit, groups: _ } => reaching(unit, 2),
         Act::LeaveHouse { groups: _ } => reaching(255, 0),
-        Act::Execute { group: _ } => reaching(255, 0),
-        Act::GroupOff { group: _ } => reaching(255, 0),
-        Act::GroupDim { group: _ } => reaching(255, 0),
-        Act::GroupBright { group: _ } => reaching(255, 0),
+        Act::Group {
+            group: _,
+            reference: _,
+            ask: _,
+        } => reaching(255, 0),
     }
 }
 
@@ -291,7 +346,18 @@ fn step_groups(t: &mut [u8], i: usize, act: Act, n: u8) -> usize
     requires { ⌜ (length (now t) ≡ TABLE-BYTES) × (i < RECORDS) × (present (recordAt (now t) i) ≡ true) × (keepsGroups act ≡ false) ⌝ }
     ensures { λ r. ⌜ ((own : House) → Stepped modules levelOf (stepRecord act own n) i (now (t .entry)) (now (t .exit)) r) ⌝ }
 {
-    store(t, i, groups_after(act, n, load(t, i)));
+    let before = load(t, i);
+    let groups = groups_after(act, n, before);
+    store(
+        t,
+        i,
+        Record {
+            kind: before.kind,
+            level: before.level,
+            addressed: before.addressed,
+            groups: groups,
+        },
+    );
     0
 }
 

@@ -7,6 +7,7 @@
 --     answer-runs      an answer that runs: the message is valid and carried, its opening fits, and its plan is the answer
 --     answer-refused   an answer that does not, for a valid message: it is not carried, or it is and its opening does not fit
 --     carried-runs, only-type-zero, which-carried, which-openings, plan-lowest      CarriedRuns, OnlyTypeZero, WhichCarried, WhichOpenings, PlanLowest
+--     group-forms-carried, which-reference                                          GroupFormsCarried, WhichReference
 use Prim.Native.Nat.{ℕ, _/_, _%_, _^_, _≤_, _<_}
 use mathlib.Core.Path.{_≡_, refl, sym, ap, _∙_}
 use mathlib.Core.Bool.{Bool, true, false, not, _&&_, _||_, false≢true}
@@ -30,12 +31,13 @@ use Rattle.message.specs.Messages.{messageOk}
 use Rattle.message.specs.declared.Message.{Message}
 use Rattle.message.specs.declared.Message.the-variants.{Address as Calls, Function as Command, Extended}
 use Rattle.plan.specs.declared.Act.{Act}
+use Rattle.plan.specs.declared.Act.the-variants.{Nothing}
 use Rattle.plan.specs.declared.Motion.{Motion}
 use Rattle.plan.specs.declared.Plan.{Plan}
 use Rattle.plan.specs.declared.Plan.the-variants.{Run, Move, Refused}
 use Rattle.plan.specs.Motions.{openingIn, motionPlan}
-use Rattle.plan.specs.Plans.{bit, notCarried, absolute, extendedPlan, typeZero, forShutters, planOf, runs, carried, fits, planCauses, planAnswer}
-use Rattle.plan.specs.Statements.{CarriedRuns, OnlyTypeZero, WhichCarried, carriesOpening, WhichOpenings, PlanLowest}
+use Rattle.plan.specs.Plans.{bit, notCarried, extendedPlan, typeZero, forShutters, planOf, runs, carried, fits, planCauses, planAnswer}
+use Rattle.plan.specs.Statements.{CarriedRuns, OnlyTypeZero, WhichCarried, GroupFormsCarried, WhichReference, carriesOpening, WhichOpenings, PlanLowest}
 
 pub no-bit : (k x : ℕ) → x < 256 → 8 ≤ k → bit k x ≡ false
 no-bit k x h l =
@@ -53,16 +55,15 @@ module _ (P : Plan → Type 0) (none : P notCarried) where
   extended-each : ((a : Act) → P (Run a)) → (u d c : ℕ) → P (extendedPlan u d c)
   unfolding extendedPlan
   extended-each act u d c =
-      let group : (a : Act) → P (absolute d a) = λ a. either (bit 5 d) none (act a) in
-      either (eqb c 0x30) (group _)
+      either (eqb c 0x30) (act _)
       (either (eqb c 0x31) (act _)
       (either (eqb c 0x32) (act _)
       (either (eqb c 0x33) (act _)
       (either (eqb c 0x34) (act _)
       (either (eqb c 0x35) (either (eqb (d / 16) 0) (act _) (either (eqb (d / 16) 15) (act _) none))
-      (either (eqb c 0x36) (group _)
-      (either (eqb c 0x3C) (group _)
-      (either (eqb c 0x37) (either (not (bit 5 d) || (not (bit 4 d) && eqb (d % 16) 0)) (act _) none)
+      (either (eqb c 0x36) (either (bit 4 d) (act _) (act _))
+      (either (eqb c 0x3C) (either (bit 4 d) (act _) (act _))
+      (either (eqb c 0x37) (either (not (bit 5 d) || bit 4 d || eqb (d % 16) 0) (act _) none)
       (either (leb 0x38 c && leb c 0x3B) (act _) none)))))))))
 
   -- a plan for shutters
@@ -192,6 +193,34 @@ pub which-carried : WhichCarried
 which-carried h u d c type =
     let low : c < 16 = omega (arith, eqb-true (c / 16) 0 type) in
     rw type (alike-same _ _ (below-at (λ k. alike (runs (motionPlan u d k)) (not (eqb k 0x00 || eqb k 0x06 || eqb k 0x0D))) 16 (runs-tested u d) c low))
+
+-- each of them is one of three commands, and its plan runs
+pub group-forms-carried : GroupFormsCarried
+unfolding extendedPlan
+group-forms-carried =
+    record {
+      all = λ h u d c is. all u d c (ℕ-discrete c 0x30) (ℕ-discrete c 0x36) (ℕ-discrete c 0x3C) is;
+      status = λ h u d. status (bit 5 d) (bit 4 d) _;
+    }
+  where
+    either-runs : (b : Bool) (x y : Act) → runs (pick b (Run x) (Run y)) ≡ true
+    either-runs b x y = pick-both (λ p. runs p ≡ true) b (Run x) (Run y) refl refl
+
+    all : (u d c : ℕ) → Dec (c ≡ 0x30) → Dec (c ≡ 0x36) → Dec (c ≡ 0x3C) → (eqb c 0x30 || eqb c 0x36 || eqb c 0x3C) ≡ true
+        → runs (pick (forShutters c) (motionPlan u d c) (extendedPlan u d c)) ≡ true
+    all u d c (yes e) _ _ is = rw e
+    all u d c (no _) (yes e) _ is = rw e (either-runs (bit 4 d) _ _)
+    all u d c (no _) (no _) (yes e) is = rw e (either-runs (bit 4 d) _ _)
+    all u d c (no a) (no b) (no n) is = absurd (false≢true (rw (ne-eqb _ _ a, ne-eqb _ _ b, ne-eqb _ _ n) at is))
+
+    status : (a b z : Bool) → runs (pick (not a || b || z) (Run Nothing) notCarried) ≡ not (a && not b && not z)
+    status true true z = refl
+    status true false true = refl
+    status true false false = refl
+    status false b z = refl
+
+pub which-reference : WhichReference
+which-reference = record { relative = λ d set. rw set (refl, omega arith); absolute = λ d clear. rw clear }
 
 -- "26..31", and what is left
 above-25 : (x : ℕ) → leb x 25 ≡ not (leb 26 x)

@@ -10,9 +10,10 @@ use Rattle.ground.specs.declared.Refusal.the-variants as refusal
 use Rattle.message.specs.Messages.{messageOk}
 use Rattle.message.specs.declared.Message.{Message}
 use Rattle.message.specs.declared.Message.the-variants.{Address as Calls, Function as Command, Extended}
-use Rattle.plan.specs.declared.Act.{Act}
 use Rattle.plan.specs.declared.Act.the-variants.{Nothing, Address, Obey, Join, Level, JoinAt, UnitsOn, UnitsOff}
-use Rattle.plan.specs.declared.Act.the-variants.{Leave, LeaveHouse, Execute, GroupOff, GroupDim, GroupBright}
+use Rattle.plan.specs.declared.Act.the-variants.{Leave, LeaveHouse, Group}
+use Rattle.plan.specs.declared.GroupAct.{GroupAct}
+use Rattle.plan.specs.declared.GroupAct.the-variants.{Execute, PutOff, StepDim, StepBright}
 use Rattle.plan.specs.declared.Plan.{Plan}
 use Rattle.plan.specs.declared.Plan.the-variants.{Run, Move, Refused}
 use Rattle.plan.specs.Motions.{motionPlan, motionFits}
@@ -37,36 +38,45 @@ groupIn d = d / 64
 abbrev pub groupsIn : ℕ → ℕ
 groupsIn d = d % 16
 
+-- 02, A5: "its reference, or 16 for absolute"
+abbrev pub ABSOLUTE : ℕ
+ABSOLUTE = 16
+
+-- XTC798, of 30: "G1 G0 1 x S3 S2 S1 S0 .. RELATIVE to the GRP REFERENCE S3S2S1S0", "G1 G0 0 x x x x x .. ABSOLUTE"; of 36 and 3C the same, with bit 4
+-- for what is asked
+abbrev pub referenceIn : ℕ → ℕ
+referenceIn d = pick (bit 5 d) (d % 16) ABSOLUTE
+
 -- ---- Extended commands
 
 abbrev pub notCarried : Plan
 notCarried = Refused refusal.NotCarried
 
--- "30, bit 5 clear", and so for 36 and 3C: with the bit set a group is relative, which is NOT CARRIED
-abbrev pub absolute : ℕ → Act → Plan
-absolute d a = pick (bit 5 d) notCarried (Run a)
-
 -- "35: leave the groups in the low four bits; top four 0 for the unit, 15 for the house"
 abbrev pub leavePlan : ℕ → ℕ → Plan
 leavePlan u d = pick (eqb (d / 16) 0) (Run (Leave u (groupsIn d))) (pick (eqb (d / 16) 15) (Run (LeaveHouse (groupsIn d))) notCarried)
 
--- "36, bits 5 and 4: 00 sets the house's members of G to their presets, 01 to 0."
+-- 36 and 3C, for the members of G, by the data's reference
+abbrev pub groupPlan : ℕ → GroupAct → Plan
+groupPlan d ask = Run (Group (groupIn d) (referenceIn d) ask)
+
+-- "36, bits 5 and 4: 00 sets the house's members of G to their presets, 01 to 0."; 10 and 11 are these forms, relative
 abbrev pub executePlan : ℕ → Plan
-executePlan d = absolute d (pick (bit 4 d) (GroupOff (groupIn d)) (Execute (groupIn d)))
+executePlan d = pick (bit 4 d) (groupPlan d PutOff) (groupPlan d Execute)
 
--- "3C, bit 5 clear: members that are lamps step as bright (bit 4 set) or dim."
+-- "3C ..: members that are lamps step as bright (bit 4 set) or dim."
 abbrev pub stepPlan : ℕ → Plan
-stepPlan d = absolute d (pick (bit 4 d) (GroupBright (groupIn d)) (GroupDim (groupIn d)))
+stepPlan d = pick (bit 4 d) (groupPlan d StepBright) (groupPlan d StepDim)
 
--- "37 with bits 5, 4 of 00 or 01, or 10 with low four bits 0": heard, no change
+-- "37 with bits 5, 4 of 00 or 01, or 10 with low four bits 0", and its relative form, 11: heard, no change
 abbrev pub statusPlan : ℕ → Plan
-statusPlan d = pick (not (bit 5 d) || (not (bit 4 d) && eqb (d % 16) 0)) (Run Nothing) notCarried
+statusPlan d = pick (not (bit 5 d) || bit 4 d || eqb (d % 16) 0) (Run Nothing) notCarried
 
--- by unit, data and command: "30, bit 5 clear: join G at the current level. 31: level B. 32: join G with preset B.", "33, 34: all
--- present units of the house to 63, to 0.", "38 to 3B: heard, no change"; "Everything else is NOT CARRIED"
+-- by unit, data and command: "30 ..: join G at the current level. 31: level B. 32: join G with preset B.", "33, 34: all present units of the house
+-- to 63, to 0.", "38 to 3B: heard, no change"; "Everything else is NOT CARRIED"
 unfoldable pub extendedPlan : ℕ → ℕ → ℕ → Plan
 extendedPlan u d c =
-    pick (eqb c 0x30) (absolute d (Join u (groupIn d)))
+    pick (eqb c 0x30) (Run (Join u (groupIn d) (referenceIn d)))
     (pick (eqb c 0x31) (Run (Level u (levelIn d)))
     (pick (eqb c 0x32) (Run (JoinAt u (groupIn d) (levelIn d)))
     (pick (eqb c 0x33) (Run UnitsOn)

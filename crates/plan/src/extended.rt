@@ -1,20 +1,18 @@
 // What the extended commands ask, by unit, data byte and command byte.
+use crate::ABSOLUTE;
 use crate::Act;
+use crate::GroupAct;
 use crate::Plan;
 use crate::bit_of;
 use ground::Refusal;
 ghost use mathlib.Core.Path.{_≡_};
-ghost use Rattle.plan.specs.Plans.{absolute, leavePlan, executePlan, stepPlan, statusPlan, extendedPlan};
+ghost use Rattle.plan.specs.Plans.{referenceIn, leavePlan, groupPlan, executePlan, stepPlan, statusPlan, extendedPlan};
 
-// The act, unless bit 5 of the data makes its group a relative one.
-fn if_absolute(data: u8, act: Act) -> Plan
-    ensures { λ r. ⌜ r ≡ absolute «data» act ⌝ }
+// The reference that the data names: bit 5 makes the group relative to the low four bits.
+fn reference_in(data: u8) -> u8
+    ensures { λ r. ⌜ r ≡ referenceIn «data» ⌝ }
 {
-    if bit_of(5, data) {
-        Plan::Refused(Refusal::NotCarried)
-    } else {
-        Plan::Run(act)
-    }
+    if bit_of(5, data) { data % 16 } else { ABSOLUTE }
 }
 
 fn leave_plan(unit: u8, data: u8) -> Plan
@@ -30,13 +28,24 @@ fn leave_plan(unit: u8, data: u8) -> Plan
     }
 }
 
+// What is asked of the members of the data's group, by the data's reference.
+fn group_plan(data: u8, ask: GroupAct) -> Plan
+    ensures { λ r. ⌜ r ≡ groupPlan «data» ask ⌝ }
+{
+    Plan::Run(Act::Group {
+        group: data / 64,
+        reference: reference_in(data),
+        ask: ask,
+    })
+}
+
 fn execute_plan(data: u8) -> Plan
     ensures { λ r. ⌜ r ≡ executePlan «data» ⌝ }
 {
     if bit_of(4, data) {
-        if_absolute(data, Act::GroupOff { group: data / 64 })
+        group_plan(data, GroupAct::PutOff)
     } else {
-        if_absolute(data, Act::Execute { group: data / 64 })
+        group_plan(data, GroupAct::Execute)
     }
 }
 
@@ -44,16 +53,16 @@ fn step_plan(data: u8) -> Plan
     ensures { λ r. ⌜ r ≡ stepPlan «data» ⌝ }
 {
     if bit_of(4, data) {
-        if_absolute(data, Act::GroupBright { group: data / 64 })
+        group_plan(data, GroupAct::StepBright)
     } else {
-        if_absolute(data, Act::GroupDim { group: data / 64 })
+        group_plan(data, GroupAct::StepDim)
     }
 }
 
 fn status_plan(data: u8) -> Plan
     ensures { λ r. ⌜ r ≡ statusPlan «data» ⌝ }
 {
-    if !bit_of(5, data) | (!bit_of(4, data) & (data % 16 == 0)) {
+    if !bit_of(5, data) | bit_of(4, data) | (data % 16 == 0) {
         Plan::Run(Act::Nothing)
     } else {
         Plan::Refused(Refusal::NotCarried)
@@ -64,13 +73,11 @@ pub(crate) fn extended_plan(unit: u8, data: u8, command: u8) -> Plan
     ensures { λ r. ⌜ r ≡ extendedPlan unit «data» command ⌝ }
 {
     match command {
-        0x30 => if_absolute(
-            data,
-            Act::Join {
-                unit: unit,
-                group: data / 64,
-            },
-        ),
+        0x30 => Plan::Run(Act::Join {
+            unit: unit,
+            group: data / 64,
+            reference: reference_in(data),
+        }),
         0x31 => Plan::Run(Act::Level {
             unit: unit,
             level: data % 64,

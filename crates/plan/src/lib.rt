@@ -16,37 +16,68 @@ mod motions;
 // The opening of a shutter that is fully open.
 pub const OPEN: u8 = 25;
 
-// What is asked of the sixteen modules of a house. A unit is a number 0 to 15, a group 0 to 3 and a level 0 to 63; bit g of
-// `groups` is set for group g.
+// The reference of a membership, or of a group command, that is absolute: those that are relative have one of 0 to 15.
+pub const ABSOLUTE: u8 = 16;
+
+// What is asked of the members of a group.
+pub enum GroupAct {
+    // They go to their presets.
+    Execute,
+    // They go to 0.
+    PutOff,
+    // Those that are lamps step as dim.
+    StepDim,
+    // Those that are lamps step as bright.
+    StepBright,
+}
+
+// What is asked of the sixteen modules of a house. A unit is a number 0 to 15, a group 0 to 3, a level 0 to 63 and a reference 0 to 15, or
+// 16 for absolute; bit g of `groups` is set for group g.
 pub enum Act {
     // Heard, and no module changes.
     Nothing,
     // The unit is addressed; where the house has heard a command, every other unit is unaddressed.
-    Address { unit: u8 },
+    Address {
+        unit: u8,
+    },
     // Those that the function reaches carry it out.
     Obey(Function),
-    // The unit joins the group at its current level.
-    Join { unit: u8, group: u8 },
+    // The unit joins the group at its current level, with the reference.
+    Join {
+        unit: u8,
+        group: u8,
+        reference: u8,
+    },
     // The unit goes to the level.
-    Level { unit: u8, level: u8 },
-    // The unit joins the group with the level as its preset.
-    JoinAt { unit: u8, group: u8, level: u8 },
+    Level {
+        unit: u8,
+        level: u8,
+    },
+    // The unit joins the group with the level as its preset. It is then an absolute member.
+    JoinAt {
+        unit: u8,
+        group: u8,
+        level: u8,
+    },
     // All units go to 63.
     UnitsOn,
     // All units go to 0.
     UnitsOff,
     // The unit leaves the groups.
-    Leave { unit: u8, groups: u8 },
+    Leave {
+        unit: u8,
+        groups: u8,
+    },
     // All units leave the groups.
-    LeaveHouse { groups: u8 },
-    // The members of the group go to their presets.
-    Execute { group: u8 },
-    // The members of the group go to 0.
-    GroupOff { group: u8 },
-    // The members of the group that are lamps step as dim.
-    GroupDim { group: u8 },
-    // The members of the group that are lamps step as bright.
-    GroupBright { group: u8 },
+    LeaveHouse {
+        groups: u8,
+    },
+    // The members of the group that a command with the reference reaches do what is asked of them.
+    Group {
+        group: u8,
+        reference: u8,
+        ask: GroupAct,
+    },
 }
 
 // What is asked of the shutters. A unit is a number 0 to 15, an opening or limit 0 (closed) to 25 (open), a lifestyle 0 to 7; data can bring an opening up to

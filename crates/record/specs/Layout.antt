@@ -1,19 +1,24 @@
 -- Where the bytes of a table lie, and a record with some of its fields changed. No rule of 01 but the sizes and the order of the
--- bytes stands here: "256 records of 8 in order A1..P16, then one "command heard" byte per house", and 02, A3: "one byte per house at the
--- table's end .., so the table has 2,080 bytes".
-use Prim.Native.Nat.{ℕ, _+_, _*_}
+-- bytes stands here: 256 records "in order A1..P16, then one "command heard" byte per house"; 02, A3: "one byte per house at the table's
+-- end"; and 02, A5: "the record has 12 bytes and the table 3,104".
+use Prim.Native.Nat.{ℕ, _+_, _*_, _^_}
 use mathlib.Core.Bool.{Bool, not}
-use mathlib.Core.List.{List, [], _∷_}
-use lib.Dec.{eqb}
+use mathlib.Core.List.{List, [], _∷_, _++_}
+use lib.Dec.{eqb, leb}
 use lib.ListN.{getD, set}
 use Rattle.ground.specs.Choice.{pick}
-use Rattle.ground.specs.Records.{Layout, putAt}
+use Rattle.ground.specs.Records.{bytesAt, Layout, putAt, sumBelow}
 use Rattle.plan.specs.Plans.{bit}
 use Rattle.record.specs.declared.Record.{Record}
+use Rattle.record.specs.declared.Groups.{Groups}
+use Rattle.record.specs.declared.Membership.{Membership}
 use Rattle.record.specs.declared.House.{House}
 
+abbrev pub GROUPS : ℕ
+GROUPS = 4
+
 abbrev pub RECORD-BYTES : ℕ
-RECORD-BYTES = 8
+RECORD-BYTES = 12
 
 abbrev pub UNITS : ℕ
 UNITS = 16
@@ -36,7 +41,8 @@ HOUSE-BYTES = 2
 abbrev pub TABLE-BYTES : ℕ
 TABLE-BYTES = HEARD-AT + HOUSES * HOUSE-BYTES
 
--- "Record: kind .., level .., addressed .., group mask .., four presets": record i of a table, and a record put there
+-- "Record: kind .., level .., addressed .., group mask .., four presets", and the references "in four more bytes at the record's end, group 0
+-- first": record i of a table, and a record put there
 unfoldable pub recordAt : List ℕ → ℕ → Record
 recordAt t i =
     let at = i * RECORD-BYTES in
@@ -44,15 +50,11 @@ recordAt t i =
       kind = getD t at 0;
       level = getD t (at + 1) 0;
       addressed = getD t (at + 2) 0;
-      mask = getD t (at + 3) 0;
-      preset0 = getD t (at + 4) 0;
-      preset1 = getD t (at + 5) 0;
-      preset2 = getD t (at + 6) 0;
-      preset3 = getD t (at + 7) 0;
+      groups = record { mask = getD t (at + 3) 0; presets = bytesAt t at 4 GROUPS; references = bytesAt t at 8 GROUPS };
     }
 
 abbrev pub recordBytes : Record → List ℕ
-recordBytes r = r .kind ∷ r .level ∷ r .addressed ∷ r .mask ∷ r .preset0 ∷ r .preset1 ∷ r .preset2 ∷ r .preset3 ∷ []
+recordBytes r = r .kind ∷ r .level ∷ r .addressed ∷ r .groups .mask ∷ (r .groups .presets ++ r .groups .references)
 
 abbrev pub modules : Layout Record
 modules = record { size = RECORD-BYTES; at = recordAt; bytes = recordBytes }
@@ -81,53 +83,40 @@ lamp r = eqb (r .kind) 1
 abbrev pub appliance : Record → Bool
 appliance r = eqb (r .kind) 2
 
--- "group mask 0..15 (bit g for group g)"; the preset of a group
+-- "group mask 0..15 (bit g for group g)", and the group's preset and reference: what a record is in group g
+abbrev pub membership : ℕ → Groups → Membership
+membership g of = record { member = bit g (of .mask); preset = getD (of .presets) g 0; reference = getD (of .references) g 0 }
+
 abbrev pub member : ℕ → Record → Bool
-member g r = bit g (r .mask)
+member g r = membership g (r .groups) .member
 
 abbrev pub preset : ℕ → Record → ℕ
-preset g r = pick (eqb g 0) (r .preset0) (pick (eqb g 1) (r .preset1) (pick (eqb g 2) (r .preset2) (r .preset3)))
+preset g r = membership g (r .groups) .preset
 
--- the record with its level, or its mark of being addressed, changed to x
+abbrev pub reference : ℕ → Record → ℕ
+reference g r = membership g (r .groups) .reference
+
+-- group g as a bit of the mask; there is none beyond the four groups
+abbrev pub bitOf : ℕ → ℕ
+bitOf g = pick (leb g 3) (2 ^ g) 0
+
+-- the groups of a record that is in group g what is told of g
+abbrev pub maskOf : (ℕ → Bool) → ℕ
+maskOf told = sumBelow GROUPS (λ g. pick (told g) (2 ^ g) 0)
+
+abbrev pub fourOf : (ℕ → ℕ) → List ℕ
+fourOf told = told 0 ∷ told 1 ∷ told 2 ∷ told 3 ∷ []
+
+unfoldable pub regroup : (ℕ → Membership) → Groups
+regroup told =
+    record { mask = maskOf (λ g. told g .member); presets = fourOf (λ g. told g .preset); references = fourOf (λ g. told g .reference) }
+
+-- the record with its level, its mark of being addressed, or its groups changed
 abbrev pub withLevel : ℕ → Record → Record
-withLevel x r =
-    record {
-      kind = r .kind;
-      level = x;
-      addressed = r .addressed;
-      mask = r .mask;
-      preset0 = r .preset0;
-      preset1 = r .preset1;
-      preset2 = r .preset2;
-      preset3 = r .preset3;
-    }
+withLevel x r = record { kind = r .kind; level = x; addressed = r .addressed; groups = r .groups }
 
 abbrev pub withAddressed : ℕ → Record → Record
-withAddressed x r =
-    record {
-      kind = r .kind;
-      level = r .level;
-      addressed = x;
-      mask = r .mask;
-      preset0 = r .preset0;
-      preset1 = r .preset1;
-      preset2 = r .preset2;
-      preset3 = r .preset3;
-    }
+withAddressed x r = record { kind = r .kind; level = r .level; addressed = x; groups = r .groups }
 
--- the mask with a bit for each of the four groups, and the record as a member of the groups k with `mem k`, its presets `pre k`
-abbrev pub maskOf : Bool → Bool → Bool → Bool → ℕ
-maskOf a b c d = pick a 1 0 + pick b 2 0 + pick c 4 0 + pick d 8 0
-
-abbrev pub regroup : (ℕ → Bool) → (ℕ → ℕ) → Record → Record
-regroup mem pre r =
-    record {
-      kind = r .kind;
-      level = r .level;
-      addressed = r .addressed;
-      mask = maskOf (mem 0) (mem 1) (mem 2) (mem 3);
-      preset0 = pre 0;
-      preset1 = pre 1;
-      preset2 = pre 2;
-      preset3 = pre 3;
-    }
+abbrev pub withGroups : Groups → Record → Record
+withGroups of r = record { kind = r .kind; level = r .level; addressed = r .addressed; groups = of }

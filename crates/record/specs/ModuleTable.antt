@@ -1,8 +1,8 @@
--- The module table (01, 'The module table'; XTC798, type 3), in 01's order: the rules of a valid table, what an act does to one
+-- The module table (01, 'The module table'; 02, A3 and A5; XTC798, type 3), in 01's order: the rules of a valid table, what an act does to one
 -- record and to the house's own bytes, and what it does to the table. Which act a message asks for is in plan's Plans, where the
 -- bytes lie in Layout.
 use Prim.Native.Nat.{ℕ, _+_, _-_, _*_, min, max}
-use mathlib.Core.Bool.{Bool, not, _&&_, _||_}
+use mathlib.Core.Bool.{Bool, true, false, not, _&&_, _||_}
 use mathlib.Core.List.{List}
 use lib.Dec.{eqb, leb}
 use lib.ListN.{length}
@@ -13,12 +13,16 @@ use Rattle.message.specs.declared.Function.the-variants.{AllUnitsOff, AllLights
 use Rattle.message.specs.declared.Function.the-variants.{HailRequest, HailAcknowledge, StatusOn, StatusOff, StatusRequest}
 use Rattle.plan.specs.declared.Act.{Act}
 use Rattle.plan.specs.declared.Act.the-variants.{Nothing, Address, Obey, Join, Level, JoinAt, UnitsOn, UnitsOff}
-use Rattle.plan.specs.declared.Act.the-variants.{Leave, LeaveHouse, Execute, GroupOff, GroupDim, GroupBright}
-use Rattle.plan.specs.Plans.{bit}
+use Rattle.plan.specs.declared.Act.the-variants.{Leave, LeaveHouse, Group}
+use Rattle.plan.specs.declared.GroupAct.{GroupAct}
+use Rattle.plan.specs.declared.GroupAct.the-variants.{Execute, PutOff, StepDim, StepBright}
+use Rattle.plan.specs.Plans.{bit, ABSOLUTE}
 use Rattle.record.specs.declared.Record.{Record}
+use Rattle.record.specs.declared.Groups.{Groups}
+use Rattle.record.specs.declared.Membership.{Membership}
 use Rattle.record.specs.declared.House.{House}
-use Rattle.record.specs.Layout.{RECORDS, UNITS, HOUSES, TABLE-BYTES, recordAt, modules, houseAt, putHouse}
-use Rattle.record.specs.Layout.{present, lamp, appliance, member, preset, withLevel, withAddressed, regroup}
+use Rattle.record.specs.Layout.{GROUPS, RECORDS, UNITS, HOUSES, TABLE-BYTES, recordAt, modules, houseAt, putHouse}
+use Rattle.record.specs.Layout.{present, lamp, appliance, membership, member, preset, reference, withLevel, withAddressed, withGroups, regroup}
 
 -- ---- The rules of a valid table
 
@@ -30,19 +34,29 @@ levelOk kind x = leb x 63 && (not (eqb kind 2) || eqb x 0 || eqb x 63)
 abbrev pub presetOk : ℕ → Bool → ℕ → Bool
 presetOk kind joined x = levelOk kind x && (joined || eqb x 0)
 
+-- 02, A5: "its reference", 0 to 15, "or 16 for absolute"; "A non-member's reference byte is 0."
+abbrev pub referenceOk : Bool → ℕ → Bool
+referenceOk joined x = leb x ABSOLUTE && (joined || eqb x 0)
+
+abbrev pub groupOk : ℕ → Bool → ℕ → ℕ → Bool
+groupOk kind joined preset reference = presetOk kind joined preset && referenceOk joined reference
+
+-- in each of the first n groups
+abbrev pub groupsOk : ℕ → Record → Bool
+groupsOk n r = allBelow n (λ g. groupOk (r .kind) (member g r) (preset g r) (reference g r))
+
 -- "Kind 0 is all zeros."
 abbrev pub allZeros : Record → Bool
 allZeros r =
-    eqb (r .level) 0 && eqb (r .addressed) 0 && eqb (r .mask) 0
-    && eqb (r .preset0) 0 && eqb (r .preset1) 0 && eqb (r .preset2) 0 && eqb (r .preset3) 0
+    eqb (r .level) 0 && eqb (r .addressed) 0 && eqb (r .groups .mask) 0
+    && allBelow GROUPS (λ g. eqb (preset g r) 0 && eqb (reference g r) 0)
 
--- "Record: kind (0 none, 1 lamp, 2 appliance), level .., addressed 0 or 1, group mask 0..15 .., four presets .."
+-- "Record: kind (0 none, 1 lamp, 2 appliance), level 0..63, addressed 0 or 1, group mask 0..15"
+abbrev pub fieldsOk : ℕ → ℕ → ℕ → ℕ → Bool
+fieldsOk kind level addressed mask = leb kind 2 && levelOk kind level && leb addressed 1 && leb mask 15
+
 unfoldable pub recordOk : Record → Bool
-recordOk r =
-    leb (r .kind) 2 && levelOk (r .kind) (r .level) && leb (r .addressed) 1 && leb (r .mask) 15
-    && presetOk (r .kind) (member 0 r) (r .preset0) && presetOk (r .kind) (member 1 r) (r .preset1)
-    && presetOk (r .kind) (member 2 r) (r .preset2) && presetOk (r .kind) (member 3 r) (r .preset3)
-    && (present r || allZeros r)
+recordOk r = fieldsOk (r .kind) (r .level) (r .addressed) (r .groups .mask) && groupsOk GROUPS r && (present r || allZeros r)
 
 -- "House bytes are 0 or 1."
 abbrev pub heardOk : ℕ → Bool
@@ -117,30 +131,47 @@ obeyed StatusRequest r = r
 abbrev pub levelFor : ℕ → Record → ℕ
 levelFor b r = pick (appliance r && not (eqb b 0)) 63 (min 63 b)
 
--- "join G", with preset x; "leave the groups in the low four bits .. presets left become 0"
-unfoldable pub joined : ℕ → ℕ → Record → Record
-joined g x r = regroup (λ k. eqb g k || member k r) (λ k. pick (eqb g k) x (preset k r)) r
+-- whether a command for group g, with reference s, reaches a record: 02, A5: "A relative execution, off or step reaches members with that
+-- reference as well as absolute members ..; an absolute one absolute members only."
+abbrev pub reached : ℕ → ℕ → Record → Bool
+reached g s r = member g r && (eqb (reference g r) ABSOLUTE || eqb (reference g r) s)
 
-unfoldable pub left : ℕ → Record → Record
-left gs r = regroup (λ k. member k r && not (bit k gs)) (λ k. pick (bit k gs) 0 (preset k r)) r
+-- the level that it takes then: 36 "sets the house's members of G to their presets", or "to 0"; 3C: "members that are lamps step"
+abbrev pub asked : GroupAct → ℕ → Record → ℕ
+asked Execute g r = preset g r
+asked PutOff g r = 0
+asked StepDim g r = pick (lamp r) (dimmed (r .level)) (r .level)
+asked StepBright g r = pick (lamp r) (brightened (r .level)) (r .level)
+
+-- a member of a group with preset x and reference s, and one that is none
+abbrev pub joinedAs : ℕ → ℕ → Membership
+joinedAs x s = record { member = true; preset = x; reference = s }
+
+abbrev pub notJoined : Membership
+notJoined = record { member = false; preset = 0; reference = 0 }
+
+-- "join G", with preset x and reference s: "joining again replaces level and reference"; a reference is 0..16, and a number above counts as 16
+unfoldable pub joined : ℕ → ℕ → ℕ → Groups → Groups
+joined g x s of = regroup (λ k. pick (eqb g k) (joinedAs x (min ABSOLUTE s)) (membership k of))
+
+-- "leave the groups in the low four bits .. presets left become 0", and the references too: "35 ignores references"
+unfoldable pub left : ℕ → Groups → Groups
+left gs of = regroup (λ k. pick (bit k gs) notJoined (membership k of))
 
 -- what an act does to the record of unit n, by the house's own bytes, if a module is there; "Address: if the house byte is 1, the
--- whole house becomes unaddressed ..; then that unit .. is addressed."
+-- whole house becomes unaddressed ..; then that unit .. is addressed."; 02, A5: "32 joins absolute"
 abbrev pub acted : Act → House → ℕ → Record → Record
 acted Nothing own n r = r
 acted (Address u) own n r = withAddressed (pick (eqb n u) 1 (pick (eqb (own .heard) 1) 0 (r .addressed))) r
 acted (Obey f) own n r = obeyed f r
-acted (Join u g) own n r = pick (eqb n u) (joined g (r .level) r) r
+acted (Join u g s) own n r = pick (eqb n u) (withGroups (joined g (r .level) s (r .groups)) r) r
 acted (Level u b) own n r = relevel (eqb n u) (levelFor b r) r
-acted (JoinAt u g b) own n r = pick (eqb n u) (joined g (levelFor b r) r) r
+acted (JoinAt u g b) own n r = pick (eqb n u) (withGroups (joined g (levelFor b r) ABSOLUTE (r .groups)) r) r
 acted UnitsOn own n r = withLevel 63 r
 acted UnitsOff own n r = withLevel 0 r
-acted (Leave u gs) own n r = pick (eqb n u) (left gs r) r
-acted (LeaveHouse gs) own n r = left gs r
-acted (Execute g) own n r = relevel (member g r) (preset g r) r
-acted (GroupOff g) own n r = relevel (member g r) 0 r
-acted (GroupDim g) own n r = relevel (member g r && lamp r) (dimmed (r .level)) r
-acted (GroupBright g) own n r = relevel (member g r && lamp r) (brightened (r .level)) r
+acted (Leave u gs) own n r = pick (eqb n u) (withGroups (left gs (r .groups)) r) r
+acted (LeaveHouse gs) own n r = withGroups (left gs (r .groups)) r
+acted (Group g s ask) own n r = relevel (reached g s r) (asked ask g r) r
 
 -- "Kind 0 is all zeros", and stays so: "An absent unit named by a carried command changes nothing"
 unfoldable pub stepRecord : Act → House → ℕ → Record → Record
@@ -154,17 +185,14 @@ abbrev pub heardAfter : Act → ℕ → ℕ
 heardAfter Nothing x = x
 heardAfter (Address u) x = 0
 heardAfter (Obey f) x = 1
-heardAfter (Join u g) x = x
+heardAfter (Join u g s) x = x
 heardAfter (Level u b) x = x
 heardAfter (JoinAt u g b) x = x
 heardAfter UnitsOn x = x
 heardAfter UnitsOff x = x
 heardAfter (Leave u gs) x = x
 heardAfter (LeaveHouse gs) x = x
-heardAfter (Execute g) x = x
-heardAfter (GroupOff g) x = x
-heardAfter (GroupDim g) x = x
-heardAfter (GroupBright g) x = x
+heardAfter (Group g s ask) x = x
 
 -- "the number of its modules above level 0, true after every operation": the number that the act leaves above it
 abbrev pub houseAfter : Act → ℕ → House → House

@@ -1,20 +1,27 @@
 // What an act does to one record, part by part, and to a house's own bytes. Each part has a function of its own, so that a caller need not
 // store the others.
+use crate::GROUPS;
+use crate::Groups;
 use crate::House;
+use crate::Membership;
 use crate::Record;
 use crate::choose;
-use crate::preset_of;
 use message::Function;
+use plan::ABSOLUTE;
 use plan::Act;
+use plan::GroupAct;
 use plan::bit_of;
 ghost use mathlib.Core.Path.{_≡_};
 ghost use mathlib.Core.Bool.{Bool};
 ghost use Prim.Native.Nat.{_≤_, min};
+ghost use lib.ListN.{getD};
 ghost use Rattle.ground.specs.Choice.{pick};
+ghost use Rattle.plan.specs.Plans.{bit};
 ghost use Rattle.record.specs.declared.House.{House};
-ghost use Rattle.record.specs.Layout.{maskOf};
-ghost use Rattle.record.specs.ModuleTable.{litLevel, dimmed, brightened, obeyed, levelFor, joined, left, acted, stepRecord, heardAfter, houseAfter};
-ghost use Rattle.record.specs.Parts.{keepsGroups, groupsOf};
+ghost use Rattle.record.specs.Layout.{membership, preset, bitOf, regroup};
+ghost use Rattle.record.specs.ModuleTable.{litLevel, dimmed, brightened, obeyed, levelFor, reached, asked, joined, left};
+ghost use Rattle.record.specs.ModuleTable.{acted, stepRecord, heardAfter, houseAfter};
+ghost use Rattle.record.specs.Parts.{keepsGroups};
 
 // A dark level as 63, and a lit one as it is.
 fn lit_level(l: u8) -> u8
@@ -37,18 +44,18 @@ fn brighten(l: u8) -> u8
     if x < 60 { x + 3 } else { 63 }
 }
 
-// A number above 63 as 63.
-fn at_most_63(x: u8) -> u8
-    ensures { λ l. ⌜ l ≡ min 63 x ⌝ }
+// The lower of two numbers.
+fn lower(x: u8, y: u8) -> u8
+    ensures { λ l. ⌜ l ≡ min x y ⌝ }
 {
-    if x < 63 { x } else { 63 }
+    if y < x { y } else { x }
 }
 
 // The level that a module takes where x is asked: for an appliance all or nothing.
 fn level_asked(x: u8, r: Record) -> u8
     ensures { λ l. ⌜ l ≡ levelFor x r ⌝ }
 {
-    choose((r.kind == 2) & !(x == 0), 63, at_most_63(x))
+    choose((r.kind == 2) & !(x == 0), 63, lower(63, x))
 }
 
 // The level that a function leaves.
@@ -73,16 +80,71 @@ fn obeyed_level(f: Function, r: Record) -> u8
     }
 }
 
+// One of four numbers; there is 0 beyond them.
+fn number_at(xs: [u8; GROUPS], g: u8) -> u8
+    ensures { λ r. ⌜ r ≡ getD xs g 0 ⌝ }
+{
+    let i = g as usize;
+    if i < GROUPS { xs[i] } else { 0 }
+}
+
+// What a module is in group g.
+fn membership_in(g: u8, groups: Groups) -> Membership
+    ensures { λ m. ⌜ m ≡ membership g groups ⌝ }
+{
+    let presets = groups.presets;
+    let references = groups.references;
+    Membership {
+        member: bit_of(g, groups.mask),
+        preset: number_at(presets, g),
+        reference: number_at(references, g),
+    }
+}
+
+// Whether a command for the group, with the reference, reaches the module.
+fn reached(group: u8, reference: u8, r: Record) -> bool
+    ensures { λ b. ⌜ b ≡ reached group reference r ⌝ }
+{
+    let groups = r.groups;
+    let m = membership_in(group, groups);
+    m.member & ((m.reference == ABSOLUTE) | (m.reference == reference))
+}
+
+// The level that a module takes where its preset for the group is asked.
+fn preset_of(g: u8, r: Record) -> u8
+    ensures { λ x. ⌜ x ≡ preset g r ⌝ }
+{
+    let groups = r.groups;
+    let m = membership_in(g, groups);
+    m.preset
+}
+
+// The level that a member takes which a command for the group reaches.
+fn asked_level(ask: GroupAct, group: u8, r: Record) -> u8
+    ensures { λ x. ⌜ x ≡ asked ask group r ⌝ }
+{
+    let lamp = r.kind == 1;
+    match ask {
+        GroupAct::Execute => preset_of(group, r),
+        GroupAct::PutOff => 0,
+        GroupAct::StepDim => choose(lamp, dim(r.level), r.level),
+        GroupAct::StepBright => choose(lamp, brighten(r.level), r.level),
+    }
+}
+
 // The level that an act leaves a module that is unit n, whatever the house's own bytes.
 fn act_level(act: Act, n: u8, r: Record) -> u8
     ensures { λ x. ⌜ ((own : House) → x ≡ acted act own n r .level) ⌝ }
 {
-    let lamp = r.kind == 1;
     match act {
         Act::Nothing => r.level,
         Act::Address { unit: _ } => r.level,
         Act::Obey(f) => obeyed_level(f, r),
-        Act::Join { unit: _, group: _ } => r.level,
+        Act::Join {
+            unit: _,
+            group: _,
+            reference: _,
+        } => r.level,
         Act::Level { unit, level } => choose(n == unit, level_asked(level, r), r.level),
         Act::JoinAt {
             unit: _,
@@ -93,12 +155,13 @@ fn act_level(act: Act, n: u8, r: Record) -> u8
         Act::UnitsOff => 0,
         Act::Leave { unit: _, groups: _ } => r.level,
         Act::LeaveHouse { groups: _ } => r.level,
-        Act::Execute { group } => choose(bit_of(group, r.mask), preset_of(group, r), r.level),
-        Act::GroupOff { group } => choose(bit_of(group, r.mask), 0, r.level),
-        Act::GroupDim { group } => choose(bit_of(group, r.mask) & lamp, dim(r.level), r.level),
-        Act::GroupBright { group } => choose(
-            bit_of(group, r.mask) & lamp,
-            brighten(r.level),
+        Act::Group {
+            group,
+            reference,
+            ask,
+        } => choose(
+            reached(group, reference, r),
+            asked_level(ask, group, r),
             r.level,
         ),
     }
@@ -132,7 +195,11 @@ fn act_addressed(act: Act, house: House, n: u8, r: Record) -> u8
         Act::Nothing => r.addressed,
         Act::Address { unit } => choose(n == unit, 1, choose(house.heard == 1, 0, r.addressed)),
         Act::Obey(f) => obeyed_addressed(f, r),
-        Act::Join { unit: _, group: _ } => r.addressed,
+        Act::Join {
+            unit: _,
+            group: _,
+            reference: _,
+        } => r.addressed,
         Act::Level { unit: _, level: _ } => r.addressed,
         Act::JoinAt {
             unit: _,
@@ -143,77 +210,88 @@ fn act_addressed(act: Act, house: House, n: u8, r: Record) -> u8
         Act::UnitsOff => r.addressed,
         Act::Leave { unit: _, groups: _ } => r.addressed,
         Act::LeaveHouse { groups: _ } => r.addressed,
-        Act::Execute { group: _ } => r.addressed,
-        Act::GroupOff { group: _ } => r.addressed,
-        Act::GroupDim { group: _ } => r.addressed,
-        Act::GroupBright { group: _ } => r.addressed,
+        Act::Group {
+            group: _,
+            reference: _,
+            ask: _,
+        } => r.addressed,
     }
 }
 
-// A bit of a mask.
-fn weight(b: bool, w: u8) -> u8
-    ensures { λ x. ⌜ (x ≡ pick b w 0) × (x ≤ w) ⌝ }
+// Group g as a bit of a mask; there is none beyond the four.
+fn only(g: u8) -> u8
+    ensures { λ x. ⌜ (x ≡ bitOf g) × (x ≤ 8) ⌝ }
 {
-    if b { w } else { 0 }
+    if g <= 3 { 1 << g } else { 0 }
 }
 
-// The mask of the groups told.
-fn mask_of(a: bool, b: bool, c: bool, d: bool) -> u8
-    ensures { λ x. ⌜ x ≡ maskOf a b c d ⌝ }
+// The membership given where group k is among those told, a bit each, and else the membership that there was.
+fn membership_after(told: u8, m: Membership, groups: Groups, k: u8) -> Membership
+    ensures { λ r. ⌜ r ≡ pick (bit k told) m (membership k groups) ⌝ }
 {
-    weight(a, 1) + weight(b, 2) + weight(c, 4) + weight(d, 8)
+    let old = membership_in(k, groups);
+    let now = bit_of(k, told);
+    Membership {
+        member: (now & m.member) | (!now & old.member),
+        preset: choose(now, m.preset, old.preset),
+        reference: choose(now, m.reference, old.reference),
+    }
 }
 
-// The record as a member of group g too, with preset x there.
-fn join(g: u8, x: u8, r: Record) -> Record
-    ensures { λ s. ⌜ s ≡ joined g x r ⌝ }
+// The groups with the membership given in those told, a bit each.
+fn regrouped(told: u8, m: Membership, groups: Groups) -> Groups
+    ensures { λ r. ⌜ r ≡ regroup (λ k. pick (bit k told) m (membership k groups)) ⌝ }
 {
-    let mask = mask_of(
-        (g == 0) | bit_of(0, r.mask),
-        (g == 1) | bit_of(1, r.mask),
-        (g == 2) | bit_of(2, r.mask),
-        (g == 3) | bit_of(3, r.mask),
-    );
-    Record {
-        kind: r.kind,
-        level: r.level,
-        addressed: r.addressed,
+    let mut mask: u8 = 0;
+    let mut presets = [0; GROUPS];
+    let mut references = [0; GROUPS];
+    let mut k: usize = 0;
+    while k < GROUPS {
+        let own = membership_after(told, m, groups, k as u8);
+        mask = mask + choose(own.member, only(k as u8), 0);
+        presets[k] = own.preset;
+        references[k] = own.reference;
+        k += 1;
+    }
+    Groups {
         mask: mask,
-        preset0: choose(g == 0, x, r.preset0),
-        preset1: choose(g == 1, x, r.preset1),
-        preset2: choose(g == 2, x, r.preset2),
-        preset3: choose(g == 3, x, r.preset3),
+        presets: presets,
+        references: references,
     }
 }
 
-// The record as a member no more of the groups told, a bit each.
-fn leave(groups: u8, r: Record) -> Record
-    ensures { λ s. ⌜ s ≡ left groups r ⌝ }
+// The groups with group g joined: preset x there, and the reference, one above 16 being absolute.
+fn join(g: u8, x: u8, reference: u8, groups: Groups) -> Groups
+    ensures { λ r. ⌜ r ≡ joined g x reference groups ⌝ }
 {
-    let g0 = bit_of(0, groups);
-    let g1 = bit_of(1, groups);
-    let g2 = bit_of(2, groups);
-    let g3 = bit_of(3, groups);
-    let mask = mask_of(
-        bit_of(0, r.mask) & !g0,
-        bit_of(1, r.mask) & !g1,
-        bit_of(2, r.mask) & !g2,
-        bit_of(3, r.mask) & !g3,
-    );
-    Record {
-        kind: r.kind,
-        level: r.level,
-        addressed: r.addressed,
-        mask: mask,
-        preset0: choose(g0, 0, r.preset0),
-        preset1: choose(g1, 0, r.preset1),
-        preset2: choose(g2, 0, r.preset2),
-        preset3: choose(g3, 0, r.preset3),
-    }
+    regrouped(
+        only(g),
+        Membership {
+            member: true,
+            preset: x,
+            reference: lower(ABSOLUTE, reference),
+        },
+        groups,
+    )
 }
 
-// One of two records, by a test.
-fn choose_record(b: bool, x: Record, y: Record) -> Record
+// The groups with those told left, a bit each.
+fn leave(told: u8, groups: Groups) -> Groups
+    ensures { λ r. ⌜ r ≡ left told groups ⌝ }
+{
+    regrouped(
+        told,
+        Membership {
+            member: false,
+            preset: 0,
+            reference: 0,
+        },
+        groups,
+    )
+}
+
+// One of two, by a test.
+fn choose_groups(b: bool, x: Groups, y: Groups) -> Groups
     ensures { λ r. ⌜ r ≡ pick b x y ⌝ }
 {
     if b { x } else { y }
@@ -227,7 +305,11 @@ pub fn keeps_groups(act: Act) -> bool
         Act::Nothing => true,
         Act::Address { unit: _ } => true,
         Act::Obey(_) => true,
-        Act::Join { unit: _, group: _ } => false,
+        Act::Join {
+            unit: _,
+            group: _,
+            reference: _,
+        } => false,
         Act::Level { unit: _, level: _ } => true,
         Act::JoinAt {
             unit: _,
@@ -238,36 +320,43 @@ pub fn keeps_groups(act: Act) -> bool
         Act::UnitsOff => true,
         Act::Leave { unit: _, groups: _ } => false,
         Act::LeaveHouse { groups: _ } => false,
-        Act::Execute { group: _ } => true,
-        Act::GroupOff { group: _ } => true,
-        Act::GroupDim { group: _ } => true,
-        Act::GroupBright { group: _ } => true,
+        Act::Group {
+            group: _,
+            reference: _,
+            ask: _,
+        } => true,
     }
 }
 
-// A module's record, that of unit n, with the groups that an act leaves it, whatever the house's own bytes.
-fn act_groups(act: Act, n: u8, r: Record) -> Record
-    ensures { λ s. ⌜ ((own : House) → s ≡ groupsOf (acted act own n r) r) ⌝ }
+// The groups that an act leaves a module that is unit n, whatever the house's own bytes.
+fn act_groups(act: Act, n: u8, r: Record) -> Groups
+    ensures { λ s. ⌜ ((own : House) → s ≡ acted act own n r .groups) ⌝ }
 {
+    let groups = r.groups;
     match act {
-        Act::Nothing => r,
-        Act::Address { unit: _ } => r,
-        Act::Obey(_) => r,
-        Act::Join { unit, group } => choose_record(n == unit, join(group, r.level, r), r),
-        Act::Level { unit: _, level: _ } => r,
-        Act::JoinAt { unit, group, level } => choose_record(
+        Act::Nothing => groups,
+        Act::Address { unit: _ } => groups,
+        Act::Obey(_) => groups,
+        Act::Join {
+            unit,
+            group,
+            reference,
+        } => choose_groups(n == unit, join(group, r.level, reference, groups), groups),
+        Act::Level { unit: _, level: _ } => groups,
+        Act::JoinAt { unit, group, level } => choose_groups(
             n == unit,
-            join(group, level_asked(level, r), r),
-            r,
+            join(group, level_asked(level, r), ABSOLUTE, groups),
+            groups,
         ),
-        Act::UnitsOn => r,
-        Act::UnitsOff => r,
-        Act::Leave { unit, groups } => choose_record(n == unit, leave(groups, r), r),
-        Act::LeaveHouse { groups } => leave(groups, r),
-        Act::Execute { group: _ } => r,
-        Act::GroupOff { group: _ } => r,
-        Act::GroupDim { group: _ } => r,
-        Act::GroupBright { group: _ } => r,
+        Act::UnitsOn => groups,
+        Act::UnitsOff => groups,
+        Act::Leave { unit, groups: told } => choose_groups(n == unit, leave(told, groups), groups),
+        Act::LeaveHouse { groups: told } => leave(told, groups),
+        Act::Group {
+            group: _,
+            reference: _,
+            ask: _,
+        } => groups,
     }
 }
 
@@ -285,11 +374,12 @@ pub fn addressed_after(act: Act, house: House, n: u8, r: Record) -> u8
     choose(r.kind == 0, r.addressed, act_addressed(act, house, n, r))
 }
 
-// The record with its groups as the act leaves them.
-pub fn groups_after(act: Act, n: u8, r: Record) -> Record
-    ensures { λ s. ⌜ ((own : House) → s ≡ groupsOf (stepRecord act own n r) r) ⌝ }
+// Its groups.
+pub fn groups_after(act: Act, n: u8, r: Record) -> Groups
+    ensures { λ s. ⌜ ((own : House) → s ≡ stepRecord act own n r .groups) ⌝ }
 {
-    choose_record(r.kind == 0, r, act_groups(act, n, r))
+    let groups = r.groups;
+    choose_groups(r.kind == 0, groups, act_groups(act, n, r))
 }
 
 // The "command heard" byte after an act, where it was x before.
@@ -300,7 +390,11 @@ fn heard_after(act: Act, x: u8) -> u8
         Act::Nothing => x,
         Act::Address { unit: _ } => 0,
         Act::Obey(_) => 1,
-        Act::Join { unit: _, group: _ } => x,
+        Act::Join {
+            unit: _,
+            group: _,
+            reference: _,
+        } => x,
         Act::Level { unit: _, level: _ } => x,
         Act::JoinAt {
             unit: _,
@@ -311,10 +405,11 @@ fn heard_after(act: Act, x: u8) -> u8
         Act::UnitsOff => x,
         Act::Leave { unit: _, groups: _ } => x,
         Act::LeaveHouse { groups: _ } => x,
-        Act::Execute { group: _ } => x,
-        Act::GroupOff { group: _ } => x,
-        Act::GroupDim { group: _ } => x,
-        Act::GroupBright { group: _ } => x,
+        Act::Group {
+            group: _,
+            reference: _,
+            ask: _,
+        } => x,
     }
 }
 

@@ -28,7 +28,7 @@ pub record Room : Type 0 where
 abbrev pub roomOf : List ℕ → List ℕ → Room
 roomOf t s = record { modules = t; shutters = s }
 
--- TABLE: "1 now speaks of 2,080" (02, A3); "16 SHUTTER TABLE (length not 5,120)"
+-- TABLE: "1 speaks of 3,104" (02, A5); "16 SHUTTER TABLE (length not 5,120)"
 abbrev pub modulesLong : Room → Bool
 modulesLong room = eqb (length (room .modules)) TABLE-BYTES
 

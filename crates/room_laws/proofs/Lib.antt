@@ -6,3 +6,4 @@ pub mod Press
 pub mod Slices
 pub mod Limits
 pub mod LitLaws
+pub mod GroupLaws

@@ -65,11 +65,11 @@ own-lit-only m room g there other =
 absent-dark : (r : Record) → recordOk r ≡ true → present r ≡ false → r .level ≡ 0
 absent-dark r ok gone =
     let zeros : allZeros r ≡ true = rw gone at (good r ok .zeros) in
-    eqb-true (r .level) 0 (first (eqb (r .level) 0) _ _ _ _ _ _ zeros)
+    eqb-true (r .level) 0 (first (eqb (r .level) 0) (eqb (r .addressed) 0) (eqb (r .groups .mask) 0) _ zeros)
   where
-    first : (a b c d e f g : Bool) → (a && b && c && d && e && f && g) ≡ true → a ≡ true
-    first true b c d e f g all = refl
-    first false b c d e f g all = all
+    first : (a b c d : Bool) → (a && b && c && d) ≡ true → a ≡ true
+    first true b c d all = refl
+    first false b c d all = all
 
 -- an act that leaves a module counted as x: so it counts where a module is, and 0 where none is
 lit-step : (a : Act) (own : House) (n x : ℕ) (r : Record) → litOf (acted a own n r) ≡ x → recordOk r ≡ true
@@ -83,7 +83,7 @@ lit-step a own n x r so ok = go (present r) refl
 
 module _ (h : ℕ) (room : Room) (house : h < HOUSES) (ok : roomOk room ≡ true) where
   -- each record of the house keeps the rules
-  kept : (n : ℕ) → n < UNITS → recordOk (recordAt (room .modules) (h * UNITS + n)) ≡ true
+  pub kept : (n : ℕ) → n < UNITS → recordOk (recordAt (room .modules) (h * UNITS + n)) ≡ true
   kept n below =
       below-at (λ i. recordOk (recordAt (room .modules) i)) RECORDS (whole (room .modules) (valid-parts room ok .modules-valid) .records)
       (h * UNITS + n) (omega arith)

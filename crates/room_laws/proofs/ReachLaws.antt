@@ -1,8 +1,8 @@
 -- Laws of what an act reaches.
 --
 --     step-unreached      a record that an act does not reach stays
-use mathlib.Core.Path.{_≡_, refl}
-use mathlib.Core.Bool.{Bool, true, false, _&&_, _||_, true≢false}
+use mathlib.Core.Path.{_≡_, refl, sym, _∙_}
+use mathlib.Core.Bool.{Bool, true, false, _&&_, _||_, true≢false, and-true}
 use Prim.Native.Nat.{ℕ}
 use lib.Dec.{eqb}
 use Rattle.ground.specs.Choice.{pick}
@@ -10,14 +10,15 @@ use Rattle.message.specs.declared.Function.{Function}
 use Rattle.message.specs.declared.Function.the-variants.{AllUnitsOff, AllLightsOn, On, Off, Dim, Bright, AllLightsOff, HailRequest, HailAcknowledge}
 use Rattle.message.specs.declared.Function.the-variants.{StatusOn, StatusOff, StatusRequest}
 use Rattle.plan.specs.declared.Act.{Act}
-use Rattle.plan.specs.declared.Act.the-variants.{Nothing, Address, Obey, Join, Level, JoinAt, UnitsOn, UnitsOff, Leave, LeaveHouse, Execute, GroupOff}
-use Rattle.plan.specs.declared.Act.the-variants.{GroupDim, GroupBright}
+use Rattle.plan.specs.declared.Act.the-variants.{Nothing, Address, Obey, Join, Level, JoinAt, UnitsOn, UnitsOff, Leave, LeaveHouse, Group}
+use Rattle.plan.specs.declared.GroupAct.{GroupAct}
+use Rattle.plan.specs.declared.GroupAct.the-variants.{Execute, PutOff, StepDim, StepBright}
 use Rattle.record.specs.declared.Record.{Record}
 use Rattle.record.specs.declared.House.{House}
-use Rattle.record.specs.Layout.{present, lamp, member, preset, withAddressed}
-use Rattle.record.specs.ModuleTable.{litLevel, dimmed, brightened, addressed, obeyed, levelFor, joined, left, acted, stepRecord}
+use Rattle.record.specs.Layout.{present, lamp, preset, withAddressed}
+use Rattle.record.specs.ModuleTable.{relevel, litLevel, dimmed, brightened, addressed, obeyed, levelFor, reached, asked, acted, stepRecord}
 use Rattle.module_table.proofs.StillLaws.{unlevelled, unchosen}
-use Rattle.room_laws.specs.Statements.{hears, actReaches}
+use Rattle.room_laws.specs.Statements.{hears, heeds, actReaches}
 
 -- ---- a record that an act does not reach
 
@@ -35,6 +36,18 @@ unheard StatusOn r e = refl
 unheard StatusOff r e = refl
 unheard StatusRequest r e = refl
 
+-- a step is for lamps
+unstepped : (b l : Bool) (x : ℕ) (r : Record) → (b && l) ≡ false → relevel b (pick l x (r .level)) r ≡ r
+unstepped true true x r e = absurd (true≢false e)
+unstepped true false x r e = refl
+unstepped false l x r e = refl
+
+unheeded : (ask : GroupAct) (g : ℕ) (b : Bool) (r : Record) → (b && heeds ask r) ≡ false → relevel b (asked ask g r) r ≡ r
+unheeded Execute g b r e = unlevelled b (preset g r) r (sym (and-true b) ∙ e)
+unheeded PutOff g b r e = unlevelled b 0 r (sym (and-true b) ∙ e)
+unheeded StepDim g b r e = unstepped b (lamp r) (dimmed (r .level)) r e
+unheeded StepBright g b r e = unstepped b (lamp r) (brightened (r .level)) r e
+
 unreached : (a : Act) (own : House) (n : ℕ) (r : Record) → actReaches a own n r ≡ false → acted a own n r ≡ r
 unreached Nothing own n r e = refl
 unreached (Address u) own n r e = go (eqb n u) (eqb (own .heard) 1) e
@@ -44,17 +57,14 @@ unreached (Address u) own n r e = go (eqb n u) (eqb (own .heard) 1) e
     go false true q = absurd (true≢false q)
     go false false q = refl
 unreached (Obey f) own n r e = unheard f r e
-unreached (Join u g) own n r e = unchosen (eqb n u) (joined g (r .level) r) r e
+unreached (Join u g s) own n r e = unchosen (eqb n u) _ r e
 unreached (Level u b) own n r e = unlevelled (eqb n u) (levelFor b r) r e
-unreached (JoinAt u g b) own n r e = unchosen (eqb n u) (joined g (levelFor b r) r) r e
+unreached (JoinAt u g b) own n r e = unchosen (eqb n u) _ r e
 unreached UnitsOn own n r e = absurd (true≢false e)
 unreached UnitsOff own n r e = absurd (true≢false e)
-unreached (Leave u gs) own n r e = unchosen (eqb n u) (left gs r) r e
+unreached (Leave u gs) own n r e = unchosen (eqb n u) _ r e
 unreached (LeaveHouse gs) own n r e = absurd (true≢false e)
-unreached (Execute g) own n r e = unlevelled (member g r) (preset g r) r e
-unreached (GroupOff g) own n r e = unlevelled (member g r) 0 r e
-unreached (GroupDim g) own n r e = unlevelled (member g r && lamp r) (dimmed (r .level)) r e
-unreached (GroupBright g) own n r e = unlevelled (member g r && lamp r) (brightened (r .level)) r e
+unreached (Group g s ask) own n r e = unheeded ask g (reached g s r) r e
 
 pub step-unreached : (a : Act) (own : House) (n : ℕ) (r : Record) → (present r && actReaches a own n r) ≡ false → stepRecord a own n r ≡ r
 unfolding stepRecord

@@ -13,9 +13,10 @@ use Rattle.ground.proofs.Causes.{some-number}
 use Rattle.message.specs.declared.Message.{Message}
 use Rattle.message.specs.declared.Message.the-variants.{Address as Calls, Function as Command, Extended}
 use Rattle.plan.specs.Motions.{motionPlan}
-use Rattle.plan.specs.Plans.{bit, levelIn, groupIn, groupsIn, houseOf, typeZero, forShutters, planOf, absolute, extendedPlan}
+use Rattle.plan.specs.Plans.{bit, levelIn, groupIn, groupsIn, houseOf, typeZero, forShutters, planOf, referenceIn, extendedPlan}
 use Rattle.plan.specs.declared.Act.{Act}
-use Rattle.plan.specs.declared.Act.the-variants.{Nothing, Join, Level, JoinAt, UnitsOn, UnitsOff, Leave, LeaveHouse, Execute, GroupOff, GroupDim, GroupBright}
+use Rattle.plan.specs.declared.Act.the-variants.{Nothing, Join, Level, JoinAt, UnitsOn, UnitsOff, Leave, LeaveHouse, Group}
+use Rattle.plan.specs.declared.GroupAct.{GroupAct}
 use Rattle.plan.specs.declared.Motion.{Motion}
 use Rattle.plan.specs.declared.Plan.{Plan}
 use Rattle.plan.specs.declared.Plan.the-variants.{Run, Move, Refused}
@@ -23,8 +24,8 @@ use Rattle.plan.proofs.PlanLaws.{only-type-zero}
 use Rattle.record.specs.declared.Record.{Record}
 use Rattle.record.specs.declared.House.{House}
 use Rattle.record.specs.Layout.{RECORD-BYTES, UNITS, HOUSES, RECORDS, HEARD-AT, LIT-AT, recordAt, recordBytes, houseAt, present}
-use Rattle.record.specs.ModuleTable.{joined, left, acted, stepRecord, heardAfter, runAct}
-use Rattle.module_table.proofs.TableLaws.{byte-of-record, changed-none}
+use Rattle.record.specs.ModuleTable.{acted, stepRecord, heardAfter, runAct}
+use Rattle.module_table.proofs.TableLaws.{modules-laid, changed-none}
 use Rattle.module_table.proofs.HouseLaws.{run-length, run-record, run-byte, run-house, run-house-other}
 use Rattle.module_table.proofs.Runs.{changed-at-most, run-changed}
 use Rattle.shutter.specs.Shutters.{ofHouse, ofUnit, reaches}
@@ -143,7 +144,7 @@ others-stay m room i k below small out = go (outcome m room)
         let t = room .modules in
         let kept : recordAt (roomAfter m room .modules) i ≡ recordAt t i =
         rw (r .left) (run-record a h t i below (modules-size room (r .ok)) ∙ same a r (eqb (i / UNITS) h) out) in
-        byte-of-record (roomAfter m room .modules) i k small ∙ ap (λ x. getD (recordBytes x) k 0) kept ∙ sym (byte-of-record t i k small)
+        modules-laid .byte (roomAfter m room .modules) i k small ∙ ap (λ x. getD (recordBytes x) k 0) kept ∙ sym (modules-laid .byte t i k small)
     go (moved a r) = rw (r .left)
 
 -- ---- record by record
@@ -214,23 +215,21 @@ keeps-act a marks house = (λ own n r. pick-both (λ s. s .addressed ≡ r .addr
 keeps-one : (b : Bool) (s r : Record) → s .addressed ≡ r .addressed → pick b s r .addressed ≡ r .addressed
 keeps-one b s r h = pick-both (λ x. x .addressed ≡ r .addressed) b s r h refl
 
-keeps-absolute : (d : ℕ) (a : Act) → Keeps (Run a) → Keeps (absolute d a)
-keeps-absolute d a h = pick-both Keeps (bit 5 d) _ (Run a) tt h
-
--- of one of two acts
-keeps-either : (b : Bool) (x y : Act) → Keeps (Run x) → Keeps (Run y) → Keeps (Run (pick b x y))
-keeps-either b x y p q = pick-both (λ a. Keeps (Run a)) b x y p q
+-- a group command, whatever is asked of the members
+keeps-group : (g s : ℕ) (ask : GroupAct) → Keeps (Run (Group g s ask))
+keeps-group g s ask = keeps-act (Group g s ask) (λ own n r. refl) (λ own. refl)
 
 keeps-nothing : Keeps (Run Nothing)
 keeps-nothing = keeps-act Nothing (λ own n r. refl) (λ own. refl)
 
 keeps-extended : (u d c : ℕ) → Keeps (extendedPlan u d c)
-unfolding extendedPlan joined left
+unfolding extendedPlan
 keeps-extended u d c =
     let g = groupIn d in
     let b = levelIn d in
     let gs = groupsIn d in
-    pick-both Keeps (eqb c 0x30) _ _ (keeps-absolute d (Join u g) (keeps-act (Join u g) (λ own n r. keeps-one (eqb n u) _ r refl) (λ own. refl)))
+    let s = referenceIn d in
+    pick-both Keeps (eqb c 0x30) _ _ (keeps-act (Join u g s) (λ own n r. keeps-one (eqb n u) _ r refl) (λ own. refl))
     (pick-both Keeps (eqb c 0x31) _ _ (keeps-act (Level u b) (λ own n r. refl) (λ own. refl))
     (pick-both Keeps (eqb c 0x32) _ _ (keeps-act (JoinAt u g b) (λ own n r. keeps-one (eqb n u) _ r refl) (λ own. refl))
     (pick-both Keeps (eqb c 0x33) _ _ (keeps-act UnitsOn (λ own n r. refl) (λ own. refl))
@@ -238,13 +237,9 @@ keeps-extended u d c =
     (pick-both Keeps (eqb c 0x35) _ _
     (pick-both Keeps (eqb (d / 16) 0) _ _ (keeps-act (Leave u gs) (λ own n r. keeps-one (eqb n u) _ r refl) (λ own. refl))
     (pick-both Keeps (eqb (d / 16) 15) _ _ (keeps-act (LeaveHouse gs) (λ own n r. refl) (λ own. refl)) tt))
-    (pick-both Keeps (eqb c 0x36) _ _
-    (keeps-absolute d _
-    (keeps-either (bit 4 d) _ _ (keeps-act (GroupOff g) (λ own n r. refl) (λ own. refl)) (keeps-act (Execute g) (λ own n r. refl) (λ own. refl))))
-    (pick-both Keeps (eqb c 0x3C) _ _
-    (keeps-absolute d _
-    (keeps-either (bit 4 d) _ _ (keeps-act (GroupBright g) (λ own n r. refl) (λ own. refl)) (keeps-act (GroupDim g) (λ own n r. refl) (λ own. refl))))
-    (pick-both Keeps (eqb c 0x37) _ _ (pick-both Keeps (not (bit 5 d) || (not (bit 4 d) && eqb (d % 16) 0)) _ _ keeps-nothing tt)
+    (pick-both Keeps (eqb c 0x36) _ _ (pick-both Keeps (bit 4 d) _ _ (keeps-group g s _) (keeps-group g s _))
+    (pick-both Keeps (eqb c 0x3C) _ _ (pick-both Keeps (bit 4 d) _ _ (keeps-group g s _) (keeps-group g s _))
+    (pick-both Keeps (eqb c 0x37) _ _ (pick-both Keeps (not (bit 5 d) || bit 4 d || eqb (d % 16) 0) _ _ keeps-nothing tt)
     (pick-both Keeps (leb 0x38 c && leb c 0x3B) _ _ keeps-nothing tt)))))))))
 
 -- of type 0 too, which asks for no act

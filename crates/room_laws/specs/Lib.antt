@@ -3,3 +3,4 @@ pub mod Demand2
 pub mod Slices
 pub mod Press
 pub mod Lit
+pub mod Groups

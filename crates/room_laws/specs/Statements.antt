@@ -13,14 +13,15 @@ use Rattle.message.specs.declared.Message.{Message}
 use Rattle.message.specs.declared.Message.the-variants.{Address as Calls, Function as Command, Extended}
 use Rattle.plan.specs.Plans.{houseOf, typeZero, planOf}
 use Rattle.plan.specs.declared.Act.{Act}
-use Rattle.plan.specs.declared.Act.the-variants.{Nothing, Address, Obey, Join, Level, JoinAt, UnitsOn, UnitsOff, Leave, LeaveHouse, Execute, GroupOff}
-use Rattle.plan.specs.declared.Act.the-variants.{GroupDim, GroupBright}
+use Rattle.plan.specs.declared.Act.the-variants.{Nothing, Address, Obey, Join, Level, JoinAt, UnitsOn, UnitsOff, Leave, LeaveHouse, Group}
+use Rattle.plan.specs.declared.GroupAct.{GroupAct}
+use Rattle.plan.specs.declared.GroupAct.the-variants.{Execute, PutOff, StepDim, StepBright}
 use Rattle.plan.specs.declared.Plan.{Plan}
 use Rattle.plan.specs.declared.Plan.the-variants.{Run, Move, Refused}
 use Rattle.record.specs.declared.Record.{Record}
 use Rattle.record.specs.declared.House.{House}
-use Rattle.record.specs.Layout.{RECORD-BYTES, UNITS, HOUSES, RECORDS, HEARD-AT, LIT-AT, recordAt, houseAt, present, lamp, member}
-use Rattle.record.specs.ModuleTable.{litIn, addressed, stepRecord, houseAfter}
+use Rattle.record.specs.Layout.{RECORD-BYTES, UNITS, HOUSES, RECORDS, HEARD-AT, LIT-AT, recordAt, houseAt, present, lamp}
+use Rattle.record.specs.ModuleTable.{litIn, addressed, reached, stepRecord, houseAfter}
 use Rattle.shutter.specs.declared.Shutter.{Shutter}
 use Rattle.shutter.specs.Shutters.{protected}
 use Rattle.shutter_table.specs.ShutterTable.{SHUTTERS, shutterAt, shutterAfter}
@@ -49,22 +50,26 @@ hears StatusOn r = false
 hears StatusOff r = false
 hears StatusRequest r = false
 
--- whether an act reaches the module of unit n, by the house's own bytes
+-- the members of a group that do what is asked of it
+abbrev pub heeds : GroupAct → Record → Bool
+heeds Execute r = true
+heeds PutOff r = true
+heeds StepDim r = lamp r
+heeds StepBright r = lamp r
+
+-- whether an act may change the module of unit n, by the house's own bytes: of the members that a step reaches, the lamps only
 abbrev pub actReaches : Act → House → ℕ → Record → Bool
 actReaches Nothing own n r = false
 actReaches (Address u) own n r = eqb n u || eqb (own .heard) 1
 actReaches (Obey f) own n r = hears f r
-actReaches (Join u g) own n r = eqb n u
+actReaches (Join u g s) own n r = eqb n u
 actReaches (Level u b) own n r = eqb n u
 actReaches (JoinAt u g b) own n r = eqb n u
 actReaches UnitsOn own n r = true
 actReaches UnitsOff own n r = true
 actReaches (Leave u gs) own n r = eqb n u
 actReaches (LeaveHouse gs) own n r = true
-actReaches (Execute g) own n r = member g r
-actReaches (GroupOff g) own n r = member g r
-actReaches (GroupDim g) own n r = member g r && lamp r
-actReaches (GroupBright g) own n r = member g r && lamp r
+actReaches (Group g s ask) own n r = reached g s r && heeds ask r
 
 -- whether a plan concerns the record of unit n: a module is there, and the act reaches it
 abbrev pub planConcerns : Plan → House → ℕ → Record → Bool

@@ -17,6 +17,7 @@ use tables::radio_on;
 use tables::send;
 
 mod line;
+mod references;
 mod show;
 mod shutters;
 mod tables;
@@ -81,6 +82,8 @@ fn groups() {
     let t = extended(t, 0, 0x35, 0xF2);
     let t = extended(t, 0, 0x36, 0xC0);
     let t = extended(t, 0, 0x30, 0x60);
+    let t = extended(t, 0, 0x31, 0x05);
+    let t = extended(t, 0, 0x36, 0x40);
     extended(t, 0, 0x36, 0x60);
 }
 
@@ -132,7 +135,6 @@ fn heard_only() {
     let t = extended(t, 0, 0x37, 0x30);
     let t = extended(t, 0, 0x38, 0xFF);
     let t = extended(t, 0, 0x3B, 0xFF);
-    let t = extended(t, 0, 0x3C, 0x20);
     let t = extended(t, 0, 0x3D, 0x00);
     extended(t, 0, 0x35, 0x11);
 }
@@ -155,7 +157,7 @@ fn how_many_lit() {
     ask(&table, 0);
     ask(&table, 1);
     ask(&table, 16);
-    let short = [0u8; 2064];
+    let short = [0u8; 3088];
     ask(&short, 16);
     let five = function(counted(t, 5), Function::On);
     let table = five.table;
@@ -173,11 +175,11 @@ fn how_many_lit() {
 fn refusals() {
     print(b"Refused\n");
     let far = Message::Address { house: 16, unit: 0 };
-    let mut short = [0u8; 2079];
+    let mut short = [0u8; 3103];
     let room = new_room();
     let mut none = room.shutters;
     let a = apply(&mut short, &mut none, far);
-    print(b"2079 bytes, ");
+    print(b"3103 bytes, ");
     show::applied(far, a);
     let t = send(room, far);
     let t = extended(t, 16, 0x33, 0x00);
@@ -197,5 +199,6 @@ fn main() {
     heard_only();
     how_many_lit();
     refusals();
+    references::two_keypads();
     shutters::scenes();
 }

@@ -23,7 +23,9 @@ use text::front;
 use text::hex;
 use text::letter;
 use text::place;
-ghost use Prim.Native.Nat.{_≤_, _<_};
+ghost use Prim.Native.Nat.{_+_, _≤_, _<_};
+ghost use lib.ListN.{length};
+ghost use Rattle.record.specs.Layout.{TABLE-BYTES};
 
 pub(crate) fn print(s: &[u8]) {
     io::write_all(STDOUT_FILENO, s);
@@ -105,19 +107,24 @@ pub(crate) fn coded(code: &[u8; 4], a: RoomAnswer) {
     answer(a);
 }
 
+// Whether n bytes from a place on differ between two tables.
+fn bytes_differ(before: &[u8], after: &[u8], at: usize, n: usize) -> bool
+    requires { ⌜ (at + n ≤ length (now before)) × (at + n ≤ length (now after)) ⌝ }
+{
+    let mut other = false;
+    let mut k: usize = 0;
+    while k < n {
+        other = other | (before[at + k] != after[at + k]);
+        k += 1;
+    }
+    other
+}
+
 // Whether record i differs between two tables.
 fn differs(before: &[u8; TABLE_BYTES], after: &[u8; TABLE_BYTES], i: usize) -> bool
     requires { ⌜ i < 256 ⌝ }
 {
-    let at = i * RECORD_BYTES;
-    (before[at] != after[at])
-        | (before[at + 1] != after[at + 1])
-        | (before[at + 2] != after[at + 2])
-        | (before[at + 3] != after[at + 3])
-        | (before[at + 4] != after[at + 4])
-        | (before[at + 5] != after[at + 5])
-        | (before[at + 6] != after[at + 6])
-        | (before[at + 7] != after[at + 7])
+    bytes_differ(before, after, i * RECORD_BYTES, RECORD_BYTES)
 }
 
 fn kind(k: u8) {
@@ -134,6 +141,16 @@ pub(crate) fn field(name: &[u8], value: u8) {
     number(value as u64);
 }
 
+// Four bytes of a table from a place on, under a name.
+fn four(name: &[u8], t: &[u8; TABLE_BYTES], at: usize)
+    requires { ⌜ at + 4 ≤ TABLE-BYTES ⌝ }
+{
+    field(name, t[at]);
+    field(b" ", t[at + 1]);
+    field(b" ", t[at + 2]);
+    field(b" ", t[at + 3]);
+}
+
 // Record i of a table on a line.
 fn record(t: &[u8; TABLE_BYTES], i: usize)
     requires { ⌜ i < 256 ⌝ }
@@ -145,10 +162,8 @@ fn record(t: &[u8; TABLE_BYTES], i: usize)
     field(b" level ", t[at + 1]);
     field(b" addressed ", t[at + 2]);
     field(b" mask ", t[at + 3]);
-    field(b" presets ", t[at + 4]);
-    field(b" ", t[at + 5]);
-    field(b" ", t[at + 6]);
-    field(b" ", t[at + 7]);
+    four(b" presets ", t, at + 4);
+    four(b" references ", t, at + 8);
     print(b"\n");
 }
 
@@ -243,14 +258,7 @@ fn shutter_differs(
 ) -> bool
     requires { ⌜ i < 256 ⌝ }
 {
-    let at = i * SHUTTER_BYTES;
-    let mut other = false;
-    let mut k: usize = 0;
-    while k < SHUTTER_BYTES {
-        other = other | (before[at + k] != after[at + k]);
-        k += 1;
-    }
-    other
+    bytes_differ(before, after, i * SHUTTER_BYTES, SHUTTER_BYTES)
 }
 
 // A lifestyle and the opening in it, where the shutter is included.

@@ -62,6 +62,19 @@ pub(crate) fn damaged(room: Room) -> Room {
     }
 }
 
+// The room with lamp A2 as a member of group 0, and of no other, with a reference: 17 and above no module table may have.
+pub(crate) fn referenced(room: Room, reference: u8) -> Room {
+    let table = room.table;
+    let shutters = room.shutters;
+    let mut t = table;
+    t[RECORD_BYTES + 3] = 1;
+    t[RECORD_BYTES + 8] = reference;
+    Room {
+        table: t,
+        shutters: shutters,
+    }
+}
+
 // The room with another number as that of the modules lit in house A.
 pub(crate) fn counted(room: Room, lit: u8) -> Room {
     let table = room.table;

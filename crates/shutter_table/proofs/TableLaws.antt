@@ -14,25 +14,25 @@
 --     Whole, whole-table                                  what a valid table is
 --     shutters-stay-valid, own-shutters-only, openings-at-most-256         ShuttersStayValid, OwnShuttersOnly, OpeningsAtMost256
 --     openings-none                                       a table that is left has no opening that differs
-use mathlib.Core.Path.{_≡_, refl, sym, ap, ap₂, subst, _∙_}
+use mathlib.Core.Path.{_≡_, refl, sym, ap, subst, _∙_}
 use mathlib.Core.Bool.{Bool, true, false, not, _&&_, true≢false, false≢true, and-eq-true-iff}
 use mathlib.Core.List.{List, [], _∷_}
 use mathlib.Core.Logic.{⊎-elim}
-use Prim.Native.Nat.{ℕ, zero, suc, _+_, _-_, _*_, _/_, _%_, _≤_, _<_}
-use native.Mathlib.Nat.{add-assoc, add-zero, zero-add, add-suc, suc-add, le-of-suc-le-suc, not-suc-le-zero}
+use Prim.Native.Nat.{ℕ, _+_, _-_, _*_, _/_, _%_, _≤_, _<_}
+use native.Mathlib.Nat.{add-assoc, zero-add}
 use native.Mathlib.Decide.{decLt}
 use native.Mathlib.Numerals.{towards-suc}
 use native.Mathlib.Omega.{arith}
 use borrow.Author.Tests.{eqb-true, eqb-false, eq-eqb, ne-eqb, leb-true, ltb-true, le-leb, lt-ltb}
 use lib.Dec.{eqb, leb, ltb}
 use lib.ListN.{length, getD, set, List·getD-eq-default}
-use lib.Seq.{sets, length-sets, ext-getD}
+use lib.Seq.{sets, length-sets}
 use Rattle.ground.specs.Choice.{pick}
-use Rattle.ground.specs.Records.{putAt, stepEach, Stepped, allBelow, Sound}
+use Rattle.ground.specs.Records.{bytesAt, putAt, stepEach, Stepped, allBelow, Sound}
 use Rattle.ground.proofs.Choices.{pick-both, both}
 use Rattle.ground.proofs.Causes.{bad, fine}
-use Rattle.ground.proofs.Lists.{sets-append}
-use Rattle.ground.proofs.Records.{Apart, getD-sets-before, getD-sets-after, getD-sets-in}
+use Rattle.ground.proofs.Lists.{sets-append, bytes-at, bytes-same, bytes-whole, sets-bytes}
+use Rattle.ground.proofs.Records.{laid-by-bytes, Apart, getD-sets-before, getD-sets-after, getD-sets-in}
 use Rattle.ground.proofs.Records.{put-as, each-length, each-other, each-at, same-records, differing-none, differing-at-most, below-at, below-all}
 use Rattle.plan.specs.declared.Motion.{Motion}
 use Rattle.plan.specs.declared.Motion.the-variants.{SelfTest, OpenProtected, Limit, OpenUnprotected, OpenHouse, OpenAll}
@@ -48,64 +48,21 @@ use Rattle.shutter_table.specs.ShutterTable.{shutterAfter, moveAll, open
 use Rattle.shutter_table.specs.Statements.{ShuttersLaid, ShuttersSound, ShutterByShutter, EachShutter, ShuttersStayValid, OwnShuttersOnly}
 use Rattle.shutter_table.specs.Statements.{OpeningsAtMost256}
 
--- ---- bytes as a list
-
--- n bytes from place at + k on, with 0 beyond the end: at a numeral k and n it is written out, as the definitions write it
-abbrev listed : List ℕ → ℕ → ℕ → ℕ → List ℕ
-listed t at k zero = []
-listed t at k (suc n) = getD t (at + k) 0 ∷ listed t at (suc k) n
-
-listed-length : (t : List ℕ) (at k n : ℕ) → length (listed t at k n) ≡ n
-listed-length t at k zero = refl
-listed-length t at k (suc n) = ap suc (listed-length t at (suc k) n)
-
-listed-at : (t : List ℕ) (at k n j : ℕ) → j < n → getD (listed t at k n) j 0 ≡ getD t (at + (k + j)) 0
-listed-at t at k zero j h = absurd (not-suc-le-zero h)
-listed-at t at k (suc n) zero h = rw (add-zero k)
-listed-at t at k (suc n) (suc j) h = listed-at t at (suc k) n j (le-of-suc-le-suc h) ∙ rw (suc-add k j, add-suc k j)
-
-listed-same : (t u : List ℕ) (a b k n : ℕ) → ((j : ℕ) → j < n → getD t (a + (k + j)) 0 ≡ getD u (b + (k + j)) 0) → listed t a k n ≡ listed u b k n
-listed-same t u a b k zero e = refl
-listed-same t u a b k (suc n) e =
-    ap₂ (λ (x : ℕ) (xs : List ℕ). x ∷ xs) (rw add-zero at (e 0 (omega arith)))
-    (listed-same t u a b (suc k) n (λ j h. rw (suc-add k j, ← add-suc k j) (e (suc j) (omega arith))))
-
--- a list is its own elements listed
-listed-whole : (xs : List ℕ) (n : ℕ) → length xs ≡ n → listed xs 0 0 n ≡ xs
-listed-whole xs n e =
-    ext-getD 0 (listed xs 0 0 n) xs (listed-length xs 0 0 n ∙ sym e)
-    (λ j h. listed-at xs 0 0 n j (omega (arith, listed-length xs 0 0 n)) ∙ rw (zero-add j, zero-add j))
-
 -- ---- one shutter's twenty bytes
 
--- a shutter is made of its twenty bytes alone
-at-listed : (t : List ℕ) (i : ℕ) → shutterAt t i ≡ shutterAt (getD t (i * SHUTTER-BYTES) 0 ∷ listed t (i * SHUTTER-BYTES) 1 19) 0
-unfolding shutterAt
-at-listed t i = refl
-
+-- a shutter is made of its twenty bytes, one after the other
 pub shutters-laid : ShuttersLaid
 unfolding shutterAt
-shutters-laid = record { sized = λ t i. refl; byte = byte; same = same }
-  where
-    byte : (t : List ℕ) (i k : ℕ) → k < SHUTTER-BYTES → getD t (i * SHUTTER-BYTES + k) 0 ≡ getD (shutterBytes (shutterAt t i)) k 0
-    byte t i zero h = rw add-zero
-    byte t i (suc k) h = sym (listed-at t (i * SHUTTER-BYTES) 1 19 k (omega arith) ∙ rw (suc-add 0 k, zero-add k))
-
-    same : (t u : List ℕ) (i j : ℕ) → ((k : ℕ) → k < SHUTTER-BYTES → getD t (i * SHUTTER-BYTES + k) 0 ≡ getD u (j * SHUTTER-BYTES + k) 0)
-        → shutterAt t i ≡ shutterAt u j
-    same t u i j e =
-        let first : getD t (i * SHUTTER-BYTES) 0 ≡ getD u (j * SHUTTER-BYTES) 0 = simp add-zero at (e 0 (omega arith)) in
-        let rest = listed-same t u (i * SHUTTER-BYTES) (j * SHUTTER-BYTES) 1 19 (λ k h. e (1 + k) (omega arith)) in
-        at-listed t i ∙ ap₂ (λ (x : ℕ) (xs : List ℕ). shutterAt (x ∷ xs) 0) first rest ∙ sym (at-listed u j)
+shutters-laid = laid-by-bytes shutters 19 refl (λ t i. refl) (λ t i. refl)
 
 -- its marks and openings, from where they lie
 pub mark-at : (t : List ℕ) (i l : ℕ) → l < LIFESTYLES → getD (shutterAt t i .marks) l 0 ≡ getD t (i * SHUTTER-BYTES + 4 + l) 0
 unfolding shutterAt
-mark-at t i l h = listed-at t (i * SHUTTER-BYTES) 4 8 l h ∙ ap (λ (n : ℕ). getD t n 0) (sym (add-assoc (i * SHUTTER-BYTES) 4 l))
+mark-at t i l h = bytes-at t (i * SHUTTER-BYTES) 4 8 l h ∙ ap (λ (n : ℕ). getD t n 0) (sym (add-assoc (i * SHUTTER-BYTES) 4 l))
 
 pub opening-at : (t : List ℕ) (i l : ℕ) → l < LIFESTYLES → getD (shutterAt t i .openings) l 0 ≡ getD t (i * SHUTTER-BYTES + 12 + l) 0
 unfolding shutterAt
-opening-at t i l h = listed-at t (i * SHUTTER-BYTES) 12 8 l h ∙ ap (λ (n : ℕ). getD t n 0) (sym (add-assoc (i * SHUTTER-BYTES) 12 l))
+opening-at t i l h = bytes-at t (i * SHUTTER-BYTES) 12 8 l h ∙ ap (λ (n : ℕ). getD t n 0) (sym (add-assoc (i * SHUTTER-BYTES) 12 l))
 
 -- what `shutter_ok` answers of an absent shutter, and of another
 pub judged-absent : (t : List ℕ) (i : ℕ) {none : Bool} → getD t (i * SHUTTER-BYTES) 0 ≡ 0 → none ≡ noLifestyles LIFESTYLES (shutterAt t i)
@@ -132,9 +89,7 @@ pub eight-stored : (t : List ℕ) (at : ℕ) (xs : List ℕ) → length xs ≡ L
     → set (set (set (set (set (set (set (set t at (getD xs 0 0)) (at + 1) (getD xs 1 0)) (at + 2) (getD xs 2 0)) (at + 3) (getD xs 3 0)) (at + 4) (getD xs 4 0))
     (at + 5) (getD xs 5 0)) (at + 6) (getD xs 6 0)) (at + 7) (getD xs 7 0)
     ≡ sets t at xs
-eight-stored t at xs eight =
-    let all : sets t at (listed xs 0 0 LIFESTYLES) ≡ sets t at xs = ap (sets t at) (listed-whole xs LIFESTYLES eight) in
-    simp towards-suc all
+eight-stored t at xs eight = simp towards-suc (sets-bytes t at xs LIFESTYLES eight)
 
 -- four bytes, the marks and the openings
 pub stored : (t : List ℕ) (at : ℕ) (s : Shutter) → length (s .marks) ≡ LIFESTYLES
@@ -176,8 +131,8 @@ fields-stored t i s fits here marks openings =
     put : (k : ℕ) → k < 3 → getD u (at + (1 + k)) 0 ≡ getD three k 0
     put k small = ap (λ (n : ℕ). getD u n 0) (sym (add-assoc at 1 k)) ∙ getD-sets-in three t (at + 1) k 0 small (omega arith)
 
-    eight : (k : ℕ) → 4 ≤ k → listed u at k 8 ≡ listed t at k 8
-    eight k far = listed-same u t at at k 8 (λ j below. past (at + (k + j)) (omega arith))
+    eight : (k : ℕ) → 4 ≤ k → bytesAt u at k 8 ≡ bytesAt t at k 8
+    eight k far = bytes-same u t at at k 8 (λ j below. past (at + (k + j)) (omega arith))
 
     read : shutterAt u i ≡ s
     read =
@@ -200,10 +155,10 @@ unfolding shutterAt
 eight-sound s e = subst (λ (x : Shutter). Sound shutters x) same (record { size = refl; back = back })
   where
     m : List ℕ
-    m = listed (s .marks) 0 0 8
+    m = bytesAt (s .marks) 0 0 8
 
     o : List ℕ
-    o = listed (s .openings) 0 0 8
+    o = bytesAt (s .openings) 0 0 8
 
     r : Shutter
     r = record { present = s .present; opening = s .opening; limit = s .limit; protection = s .protection; marks = m; openings = o }
@@ -212,7 +167,7 @@ eight-sound s e = subst (λ (x : Shutter). Sound shutters x) same (record { size
     back = refl
 
     same : r ≡ s
-    same = rw (listed-whole (s .marks) 8 (e .0), listed-whole (s .openings) 8 (e .1))
+    same = rw (bytes-whole (s .marks) 8 (e .0), bytes-whole (s .openings) 8 (e .1))
 
 read-eight : (t : List ℕ) (i : ℕ) → EightEach (shutterAt t i)
 unfolding shutterAt

@@ -2,11 +2,11 @@
 -- openings differ. One shutter's rules and steps are in shutter's Shutters.
 use Prim.Native.Nat.{ℕ, _+_, _*_}
 use mathlib.Core.Bool.{Bool, _&&_}
-use mathlib.Core.List.{List, [], _∷_, _++_}
+use mathlib.Core.List.{List, _∷_, _++_}
 use lib.Dec.{eqb}
 use lib.ListN.{length, getD}
 use Rattle.ground.specs.Choice.{pick}
-use Rattle.ground.specs.Records.{Layout, stepEach, allBelow, differing, valueAt}
+use Rattle.ground.specs.Records.{bytesAt, Layout, stepEach, allBelow, differing, valueAt}
 use Rattle.plan.specs.declared.Motion.{Motion}
 use Rattle.shutter.specs.declared.Shutter.{Shutter}
 use Rattle.shutter.specs.Shutters.{shutterOk, reaches, stepShutter}
@@ -30,12 +30,8 @@ shutterAt t i =
       opening = getD t (at + 1) 0;
       limit = getD t (at + 2) 0;
       protection = getD t (at + 3) 0;
-      marks =
-          getD t (at + 4) 0 ∷ getD t (at + 5) 0 ∷ getD t (at + 6) 0 ∷ getD t (at + 7) 0
-          ∷ getD t (at + 8) 0 ∷ getD t (at + 9) 0 ∷ getD t (at + 10) 0 ∷ getD t (at + 11) 0 ∷ [];
-      openings =
-          getD t (at + 12) 0 ∷ getD t (at + 13) 0 ∷ getD t (at + 14) 0 ∷ getD t (at + 15) 0
-          ∷ getD t (at + 16) 0 ∷ getD t (at + 17) 0 ∷ getD t (at + 18) 0 ∷ getD t (at + 19) 0 ∷ [];
+      marks = bytesAt t at 4 8;
+      openings = bytesAt t at 12 8;
     }
 
 abbrev pub shutterBytes : Shutter → List ℕ

@@ -12,7 +12,7 @@ mod receive;
 mod station;
 mod table;
 
-use crate::inputs::{self, LIT, SHUTTER, SHUTTER_TABLE, TABLE};
+use crate::inputs::{self, LIT, RECORD, SHUTTER, SHUTTER_TABLE, TABLE, TABLE_BEFORE};
 use crate::lent::Lent;
 use crate::reached;
 use crate::rng::Rng;
@@ -76,12 +76,16 @@ impl Both {
         wrong
     }
 
-    /// Counts a refusal of the module table that is for its lit bytes alone.
+    /// Counts a refusal of the module table that is for its lit bytes alone, or for one reference.
     fn refused(&self, refusal: Refusal, tally: &mut Tally) {
         let table = self.table.before();
-        if refusal == Refusal::Record || refusal == Refusal::Table && table.len() == LIT {
-            reached::lit_broken(table).into_iter().for_each(|cause| tally.reach(cause));
-        }
+        let causes = match (refusal, table.len()) {
+            (Refusal::Table, LIT) => vec!["no lit bytes"],
+            (Refusal::Table, TABLE_BEFORE) => vec!["records of 8 bytes"],
+            (Refusal::Record, _) => [reached::lit_broken(table), reached::reference_broken(table)].concat(),
+            _ => vec![],
+        };
+        causes.into_iter().for_each(|cause| tally.reach(cause));
     }
 }
 
@@ -98,8 +102,12 @@ fn damaged(rng: &mut Rng, table: &[u8], shutters: &[u8]) -> (Vec<u8>, Vec<u8>) {
         }
     }
     if rng.one_in(8) {
-        // As it was before there were lit bytes, or of any length.
-        let len = if rng.one_in(4) { LIT } else { inputs::length(rng, TABLE, TABLE + 8) };
+        // Without lit bytes, as it was before there were references, or of any length.
+        let len = match rng.below(4) {
+            0 => LIT,
+            1 => TABLE_BEFORE,
+            _ => inputs::length(rng, TABLE, TABLE + 8),
+        };
         table.resize(len, 0);
     }
     if rng.one_in(8) {
@@ -114,7 +122,7 @@ fn changed(table: [&[u8]; 2], shutters: [&[u8]; 2]) -> Counts {
     let differ = |[before, after]: [&[u8]; 2], size: usize| {
         before.chunks(size).zip(after.chunks(size)).take(256).filter(|(then, now)| then[1] != now[1]).count()
     };
-    Counts { modules: differ(table, 8), shutters: differ(shutters, SHUTTER) }
+    Counts { modules: differ(table, RECORD), shutters: differ(shutters, SHUTTER) }
 }
 
 /// Whether each house's byte is the number of its modules above level 0.

@@ -1,9 +1,11 @@
 //! Inputs for the comparison and for the timing: messages, lines, receivers, stations, tables and benches,
 //! valid and damaged.
 
+mod groups;
 mod lit;
 mod shutters;
 
+pub use groups::{group_presses, joined_and_called, ABSOLUTE, REFERENCES, TABLE_BEFORE};
 pub use lit::{count_lit, lit_lamps, lit_of, HEARD, LIT};
 pub use shutters::{damage_shutters, shutter, shutters, type_0, SHUTTER, SHUTTER_TABLE};
 
@@ -14,7 +16,7 @@ use x10_model::message::{Function, Word};
 use x10_model::table;
 
 pub const TABLE: usize = table::LEN;
-pub const RECORD: usize = 8;
+pub const RECORD: usize = 12;
 const RECORDS: usize = 256;
 
 /// Bytes at and around the bounds that the rules name.
@@ -65,13 +67,18 @@ pub fn extended(rng: &mut Rng, house: u8) -> [u8; MESSAGE] {
     [3, house, rng.below(16) as u8, data, command]
 }
 
-/// Five numbers that are a message; of the extended ones about half are of type 0.
+/// Five numbers that are a message; of the extended ones about half are of type 0, and a quarter are for
+/// groups.
 fn either_type(rng: &mut Rng) -> [u8; MESSAGE] {
     let numbers = message(rng);
-    if numbers[0] == 3 && rng.one_in(2) {
-        return type_0(rng, numbers[1]);
+    if numbers[0] != 3 {
+        return numbers;
     }
-    numbers
+    match rng.below(4) {
+        0 | 1 => type_0(rng, numbers[1]),
+        2 => groups::group_message(rng, numbers[1]),
+        _ => numbers,
+    }
 }
 
 /// Five numbers, a message or not.
@@ -183,12 +190,13 @@ pub fn presses(rng: &mut Rng, bad: bool, line: &mut Vec<u8>) {
     let house = rng.below(16) as u8;
     for _ in 0..2 + rng.below(5) {
         let unit = rng.below(16) as u8;
-        let numbers = match rng.below(6) {
+        let numbers = match rng.below(7) {
             0 => [2, house, rng.pick(&[0, 1, 6]), 0, 0],
             1 => [3, house, unit, rng.byte(), rng.pick(&[0x31, 0x33, 0x34])],
             2 => [2, house, rng.pick(&[2, 3, 4, 5]), 0, 0],
             3 => [3, house, unit, rng.byte(), rng.pick(&[0x04, 0x05, 0x08, 0x0B, 0x0C])],
             4 => type_0(rng, house),
+            5 => groups::group_message(rng, house),
             _ => extended(rng, house),
         };
         let start = send(rng, numbers, line);
@@ -398,10 +406,11 @@ fn written(rng: &mut Rng) -> [u8; MESSAGE] {
     numbers
 }
 
-/// A record that keeps the rules, of the kind given.
-fn record(rng: &mut Rng, kind: u8) -> [u8; RECORD] {
+/// A record that keeps the rules, of the kind given. Its references are drawn apart.
+fn record(rng: &mut Rng, apart: &mut Rng, kind: u8) -> [u8; RECORD] {
+    let mut record = [0; RECORD];
     if kind == 0 {
-        return [0; RECORD];
+        return record;
     }
     let mut level = || match kind {
         1 => match rng.below(4) {
@@ -411,7 +420,7 @@ fn record(rng: &mut Rng, kind: u8) -> [u8; RECORD] {
         },
         _ => rng.pick(&[0, 63]),
     };
-    let mut record = [kind, level(), 0, 0, level(), level(), level(), level()];
+    record[..REFERENCES].copy_from_slice(&[kind, level(), 0, 0, level(), level(), level(), level()]);
     record[2] = rng.below(2) as u8;
     record[3] = rng.below(16) as u8;
     for group in 0..4 {
@@ -419,21 +428,24 @@ fn record(rng: &mut Rng, kind: u8) -> [u8; RECORD] {
             record[4 + group] = 0;
         }
     }
+    groups::refer(apart, &mut record);
     record
 }
 
 /// A table that keeps the rules, with `absent` of 4 records of kind 0. Where `alike`, one house in
-/// eight has one record sixteen times, so that a message may change every level of it.
+/// eight has one record sixteen times, so that a message may change every level of it. References are
+/// drawn apart, so that the timed rows' other inputs are those of before there were any.
 pub fn table(rng: &mut Rng, absent: usize, alike: bool, bytes: &mut [u8]) {
+    let apart = &mut rng.apart();
     let (records, ends) = bytes.split_at_mut(HEARD);
     for house in records.chunks_exact_mut(16 * RECORD) {
         let one = (alike && rng.one_in(8)).then(|| {
             let kind = 1 + rng.below(2) as u8;
-            record(rng, kind)
+            record(rng, apart, kind)
         });
         for bytes in house.chunks_exact_mut(RECORD) {
             let kind = if rng.below(4) < absent { 0 } else { 1 + rng.below(2) as u8 };
-            bytes.copy_from_slice(&one.unwrap_or_else(|| record(rng, kind)));
+            bytes.copy_from_slice(&one.unwrap_or_else(|| record(rng, apart, kind)));
         }
     }
     for heard in &mut ends[..16] {
@@ -442,12 +454,13 @@ pub fn table(rng: &mut Rng, absent: usize, alike: bool, bytes: &mut [u8]) {
     count_lit(bytes);
 }
 
-/// Changes one byte of a table to one at a bound, or what it says of lit modules; the table may keep the
-/// rules all the same.
+/// Changes one byte of a table to one at a bound, a reference, or what it says of lit modules; the table may
+/// keep the rules all the same.
 pub fn damage(rng: &mut Rng, bytes: &mut [u8]) {
     match rng.below(8) {
         0 => bytes[HEARD + rng.below(16)] = edge(rng),
         1 => lit::damage_lit(rng, bytes),
+        2 => groups::damage_reference(rng, bytes),
         _ => {
             let place = rng.below(HEARD);
             bytes[place] = edge(rng);

@@ -164,6 +164,7 @@ pub fn all(seed: u64, rounds: usize, only: Option<usize>) -> Vec<Row> {
     type_0(seed, &start, &mut rows);
     guest_house(seed, &mut rows);
     lit(&mut rows);
+    groups(seed, &start, &mut rows);
     rows.rows
 }
 
@@ -370,6 +371,15 @@ fn lit_beside_counting(table: &[u8], timed: &'static str, rows: &mut Rows) {
     let mut rattle = Over { lent: (), reset: |_: &mut ()| {}, run: asked };
     let mut rust = Over { lent: (), reset: |_: &mut ()| {}, run: counted };
     rows.add("lit", timed, 16, &mut rattle, &mut rust);
+}
+
+/// Executions, offs and steps of groups, about half of them relative.
+fn groups(seed: u64, start: &Start, rows: &mut Rows) {
+    let rng = &mut Rng::new(seed ^ 0xA5);
+    let calls: Vec<[u8; 5]> = (0..256)
+        .map(|_| [3, rng.below(16) as u8, rng.below(16) as u8, rng.byte(), rng.pick(&[0x36, 0x3C])])
+        .collect();
+    apply(start, &calls, "256 modules, groups called, a call", rows);
 }
 
 fn apply(start: &Start, messages: &[[u8; 5]], timed: &'static str, rows: &mut Rows) {

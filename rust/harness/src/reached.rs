@@ -1,14 +1,17 @@
 //! Situations that a comparison must reach, and which case is in which. Each list has what its
 //! function gives; what the model gave back decides where the input alone does not.
 
+mod groups;
 mod lit;
 mod shutters;
 
+pub use groups::{grouped, reference_broken, CALLED, CALLED_BY, JOINED, LEFT, REFERENCE_BROKEN};
 pub use lit::{asked, asked_of, house, lit_broken, lit_form, lit_move};
 pub use lit::{ASKED, HOUSES, LIT_BROKEN, LIT_FORMS, LIT_MOVES, LIT_ORDERS};
 pub use shutters::{beside, broken, shutter_count, type_0};
 pub use shutters::{BESIDE, BROKEN, SHUTTER_COUNTS, SHUTTER_LENGTHS, TYPE_0};
 
+use crate::inputs::RECORD;
 use x10_model::bytes::{MESSAGE, STATION};
 use x10_model::message::Refusal;
 use x10_model::tables::Counts;
@@ -445,7 +448,7 @@ pub fn room(names: &[&'static str; 4], len: usize, asked: usize) -> &'static str
 /// Forms of a message that tables carry. Hail, status and 37 to 3B are counted wherever they were
 /// carried, the forms below `RECORD_FORMS` where they changed a record, others where they changed a
 /// level.
-pub const FORMS: [&str; 29] = [
+pub const FORMS: [&str; 37] = [
     "address",
     "all units off",
     "all lights on",
@@ -460,6 +463,7 @@ pub const FORMS: [&str; 29] = [
     "status off",
     "status request",
     "30",
+    "30 relative",
     "31",
     "32",
     "33",
@@ -468,23 +472,33 @@ pub const FORMS: [&str; 29] = [
     "35 house",
     "36 to presets",
     "36 to 0",
-    "37",
+    "36 relative to presets",
+    "36 relative to 0",
+    "37 with 00",
+    "37 with 01",
+    "37 with 10",
+    "37 with 11",
     "38",
     "39",
     "3A",
     "3B",
     "3C bright",
     "3C dim",
+    "3C relative bright",
+    "3C relative dim",
 ];
 
-const RECORD_FORMS: [&str; 5] = ["address", "30", "32", "35 unit", "35 house"];
-const HEARD_FORMS: [&str; 10] = [
+const RECORD_FORMS: [&str; 6] = ["address", "30", "30 relative", "32", "35 unit", "35 house"];
+const HEARD_FORMS: [&str; 13] = [
     "hail request",
     "hail acknowledge",
     "status on",
     "status off",
     "status request",
-    "37",
+    "37 with 00",
+    "37 with 01",
+    "37 with 10",
+    "37 with 11",
     "38",
     "39",
     "3A",
@@ -519,22 +533,50 @@ fn form_of([kind, _, third, data, command]: [u8; MESSAGE]) -> &'static str {
         (2, 13, _) => "status on",
         (2, 14, _) => "status off",
         (2, ..) => "status request",
-        (_, _, 0x30) => "30",
         (_, _, 0x31) => "31",
         (_, _, 0x32) => "32",
         (_, _, 0x33) => "33",
         (_, _, 0x34) => "34",
         (_, _, 0x35) if data >> 4 == 0 => "35 unit",
         (_, _, 0x35) => "35 house",
-        (_, _, 0x36) if data >> 4 & 1 == 0 => "36 to presets",
-        (_, _, 0x36) => "36 to 0",
-        (_, _, 0x37) => "37",
         (_, _, 0x38) => "38",
         (_, _, 0x39) => "39",
         (_, _, 0x3A) => "3A",
         (_, _, 0x3B) => "3B",
-        _ if data >> 4 & 1 == 1 => "3C bright",
-        _ => "3C dim",
+        _ => form_by_bits(data, command),
+    }
+}
+
+/// The form of 30, 36, 37 and 3C, which bits 5 and 4 of the data decide.
+fn form_by_bits(data: u8, command: u8) -> &'static str {
+    let forms = match command {
+        0x30 => ["30", "30", "30 relative", "30 relative"],
+        0x36 => ["36 to presets", "36 to 0", "36 relative to presets", "36 relative to 0"],
+        0x37 => ["37 with 00", "37 with 01", "37 with 10", "37 with 11"],
+        _ => ["3C dim", "3C bright", "3C relative dim", "3C relative bright"],
+    };
+    forms[usize::from(data >> 4 & 3)]
+}
+
+/// Extended messages that tables do not carry.
+pub const NOT_CARRIED: [&str; 5] = [
+    "4 for type 0",
+    "4 for 35 with other top bits",
+    "4 for 37 with 10 and low four bits not 0",
+    "4 for another command of type 3",
+    "4 for another type",
+];
+
+/// None for a message that they carry.
+pub fn not_carried([kind, _, _, data, command]: [u8; MESSAGE]) -> Option<&'static str> {
+    match command {
+        _ if kind != 3 => None,
+        0x00 | 0x06 | 0x0D => Some("4 for type 0"),
+        0x35 if !matches!(data >> 4, 0 | 15) => Some("4 for 35 with other top bits"),
+        0x37 if data >> 4 & 3 == 2 && data & 15 != 0 => Some("4 for 37 with 10 and low four bits not 0"),
+        0x3D..=0x3F => Some("4 for another command of type 3"),
+        0x10..=0x2F | 0x40.. => Some("4 for another type"),
+        _ => None,
     }
 }
 
@@ -543,8 +585,8 @@ pub const NAMED: [&str; 3] = ["names an absent unit", "names a lamp", "names an 
 
 /// None for a message that is not for one unit.
 pub fn named(numbers: [u8; MESSAGE], table: &[u8]) -> Option<&'static str> {
-    let place = 8 * (16 * usize::from(numbers[1]) + usize::from(numbers[2]));
-    let for_one = matches!(form_of(numbers), "address" | "30" | "31" | "32" | "35 unit");
+    let place = RECORD * (16 * usize::from(numbers[1]) + usize::from(numbers[2]));
+    let for_one = matches!(form_of(numbers), "address" | "30" | "30 relative" | "31" | "32" | "35 unit");
     for_one.then(|| NAMED[usize::from(table[place])])
 }
 

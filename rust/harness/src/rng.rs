@@ -7,6 +7,11 @@ impl Rng {
         Rng(seed)
     }
 
+    /// Another generator, by where this one stands, which stays there.
+    pub fn apart(&self) -> Rng {
+        Rng(!self.0)
+    }
+
     pub fn next(&mut self) -> u64 {
         self.0 = self.0.wrapping_add(0x9E37_79B9_7F4A_7C15);
         let mut z = self.0;

@@ -69,10 +69,10 @@ mod tests {
     fn room() -> Vec<u8> {
         let mut table = vec![0; LEN];
         for unit in 0..3 {
-            table[8 * unit] = 1;
+            table[12 * unit] = 1;
         }
-        table[8 + 2] = 1;
-        table[2048] = 1;
+        table[12 + 2] = 1;
+        table[3072] = 1;
         table
     }
 
@@ -131,7 +131,7 @@ mod tests {
             assert_eq!((&by_wall, beside), (&by_radio, shutters()));
             assert_eq!(table::lit(&by_radio, 0), table::counted(&by_radio, 0));
         }
-        let levels: Vec<u8> = by_wall.chunks(8).take(3).map(|record| record[1]).collect();
+        let levels: Vec<u8> = by_wall.chunks(12).take(3).map(|record| record[1]).collect();
         assert_eq!((levels, table::lit(&by_wall, 0)), (vec![60, 0, 0], Ok(1)));
     }
 
@@ -148,7 +148,7 @@ mod tests {
     fn a_message_that_is_not_carried_moves_the_receiver_on() {
         let mut table = room();
         let before = table.clone();
-        let message = Message::Extended { house: 0, unit: 0, data: 0x20, command: 0x30 };
+        let message = Message::Extended { house: 0, unit: 0, data: 0x20, command: 0x3D };
         let mut burst = [0; 124];
         write_burst(message, &mut burst).unwrap();
         let mut receiver = Receiver::FRESH;

@@ -1,4 +1,4 @@
-//! The module table: 256 records of 8 bytes in order A1..P16, then one "command heard" byte per
+//! The module table: 256 records of 12 bytes in order A1..P16, then one "command heard" byte per
 //! house, then one byte per house with the number of its modules above level 0.
 
 use crate::message::{Function, Message, Refusal};
@@ -8,11 +8,11 @@ pub const LEN: usize = LIT + HOUSES;
 /// Where the bytes that say how many modules are lit begin.
 pub(crate) const LIT: usize = RECORDS * RECORD + HOUSES;
 pub(crate) const RECORDS: usize = 256;
-const RECORD: usize = 8;
+const RECORD: usize = 12;
 const HOUSES: usize = 16;
 const UNITS: usize = 16;
 
-/// One module: kind, level, addressed, group mask, four presets.
+/// One module: kind, level, addressed, group mask, four presets, four references.
 pub type Record = [u8; RECORD];
 
 const KIND: usize = 0;
@@ -20,6 +20,7 @@ const LEVEL: usize = 1;
 const ADDRESSED: usize = 2;
 const GROUPS: usize = 3;
 const PRESETS: usize = 4;
+const REFERENCES: usize = 8;
 
 const NONE: u8 = 0;
 const LAMP: u8 = 1;
@@ -28,6 +29,9 @@ const APPLIANCE: u8 = 2;
 /// The highest level.
 const FULL: u8 = 63;
 
+/// The reference of a membership, or of a group command, that is relative to none.
+const ABSOLUTE: u8 = 16;
+
 /// A lent table of the right length.
 pub struct Table<'a> {
     records: &'a mut [Record],
@@ -35,15 +39,20 @@ pub struct Table<'a> {
     lit: &'a mut [u8],
 }
 
+/// A group as a command names it: relative to a reference from 0 to 15, or absolute.
+#[derive(Clone, Copy, Debug, PartialEq, Eq)]
+struct Group {
+    number: usize,
+    reference: u8,
+}
+
 /// What an extended command asks for.
 #[derive(Clone, Copy, Debug, PartialEq, Eq)]
 enum Extended {
     /// The unit joins a group, at its level now or with a preset.
-    JoinAtLevel {
-        group: usize,
-    },
+    JoinAtLevel(Group),
     JoinWith {
-        group: usize,
+        group: Group,
         preset: u8,
     },
     /// The unit's level.
@@ -53,15 +62,11 @@ enum Extended {
     /// Groups to leave, as a mask.
     UnitLeaves(u8),
     HouseLeaves(u8),
-    /// The house's members of a group.
-    Recall {
-        group: usize,
-    },
-    GroupOff {
-        group: usize,
-    },
+    /// The house's members of a group that are reached.
+    Recall(Group),
+    GroupOff(Group),
     Step {
-        group: usize,
+        group: Group,
         up: bool,
     },
     Heard,
@@ -70,23 +75,26 @@ enum Extended {
 impl Extended {
     /// None where the command is not carried.
     fn read(data: u8, command: u8) -> Option<Extended> {
-        let group = usize::from(data >> 6);
         let level = data % 64;
-        let bits_5_4 = data >> 4 & 3;
+        let (bit_5, bit_4) = (data >> 5 & 1 == 1, data >> 4 & 1 == 1);
         let low = data & 15;
+        // In 30, 36 and 3C bit 5 makes the group relative to the low four bits.
+        let absolute = Group { number: usize::from(data >> 6), reference: ABSOLUTE };
+        let group = if bit_5 { Group { reference: low, ..absolute } } else { absolute };
         match command {
-            0x30 if bits_5_4 < 2 => Some(Extended::JoinAtLevel { group }),
+            0x30 => Some(Extended::JoinAtLevel(group)),
             0x31 => Some(Extended::Level(level)),
-            0x32 => Some(Extended::JoinWith { group, preset: level }),
+            0x32 => Some(Extended::JoinWith { group: absolute, preset: level }),
             0x33 => Some(Extended::House(FULL)),
             0x34 => Some(Extended::House(0)),
             0x35 if data >> 4 == 0 => Some(Extended::UnitLeaves(low)),
             0x35 if data >> 4 == 15 => Some(Extended::HouseLeaves(low)),
-            0x36 if bits_5_4 == 0 => Some(Extended::Recall { group }),
-            0x36 if bits_5_4 == 1 => Some(Extended::GroupOff { group }),
-            0x37 if bits_5_4 < 2 || bits_5_4 == 2 && low == 0 => Some(Extended::Heard),
+            0x36 if bit_4 => Some(Extended::GroupOff(group)),
+            0x36 => Some(Extended::Recall(group)),
+            // Bit 5 alone asks about an absolute group, and the low four bits are 0 there.
+            0x37 if !bit_5 || bit_4 || low == 0 => Some(Extended::Heard),
             0x38..=0x3B => Some(Extended::Heard),
-            0x3C if bits_5_4 < 2 => Some(Extended::Step { group, up: bits_5_4 == 1 }),
+            0x3C => Some(Extended::Step { group, up: bit_4 }),
             _ => None,
         }
     }
@@ -236,19 +244,38 @@ fn house_ok(records: &[Record], lit: u8) -> bool {
 }
 
 fn record_ok(record: &Record) -> bool {
-    let [kind, level, addressed, groups, presets @ ..] = *record;
-    let fits = |level: u8| match kind {
+    let [kind, level, addressed, groups, ..] = *record;
+    let level_ok = match kind {
+        NONE => return *record == [0; RECORD],
         LAMP => level <= FULL,
-        _ => level == 0 || level == FULL,
+        APPLIANCE => level == 0 || level == FULL,
+        _ => return false,
     };
-    let preset_ok = |(group, &preset)| preset == 0 || is_member(record, group) && fits(preset);
-    match kind {
-        NONE => *record == [0; RECORD],
-        LAMP | APPLIANCE => {
-            fits(level) && addressed <= 1 && groups <= 15 && presets.iter().enumerate().all(preset_ok)
-        }
-        _ => false,
-    }
+    level_ok && addressed <= 1 && groups <= 15 && groups_ok(record)
+}
+
+/// Four bytes of 1.
+const ONES: u32 = 0x0101_0101;
+
+/// Whether presets and references are those that a member may have, and 0 where there is no membership:
+/// four groups at once.
+fn groups_ok(record: &Record) -> bool {
+    // The mask's bit for a group becomes that group's byte.
+    let members = (u32::from(record[GROUPS]) * 0x0020_4081) & ONES;
+    let presets = four(&record[PRESETS..REFERENCES]);
+    let references = four(&record[REFERENCES..]);
+    // Of a preset six bits, and of a reference five, where there is a membership.
+    let beyond = presets & !(members * 63) | references & !(members * 31);
+    // An appliance's preset has all of the six or none.
+    let full = (presets & ONES) * 63;
+    let between = if record[KIND] == APPLIANCE { presets ^ full } else { 0 };
+    // With 15 more, bit 5 comes up from 17 on. A carry to the next byte needs a byte that is beyond.
+    let above = references.wrapping_add(15 * ONES) & (32 * ONES);
+    beyond | between | above == 0
+}
+
+fn four(bytes: &[u8]) -> u32 {
+    u32::from_le_bytes(bytes.try_into().expect("four bytes"))
 }
 
 fn is_member(record: &Record, group: usize) -> bool {
@@ -316,7 +343,7 @@ fn function_acts(records: &mut [Record], function: Function) {
 
 fn extended_acts(records: &mut [Record], unit: usize, extended: Extended) {
     match extended {
-        Extended::JoinAtLevel { group } => {
+        Extended::JoinAtLevel(group) => {
             let record = &mut records[unit];
             join(record, group, record[LEVEL]);
         }
@@ -337,12 +364,12 @@ fn extended_acts(records: &mut [Record], unit: usize, extended: Extended) {
         }
         Extended::UnitLeaves(groups) => leave(&mut records[unit], groups),
         Extended::HouseLeaves(groups) => records.iter_mut().for_each(|record| leave(record, groups)),
-        Extended::Recall { group } => {
-            members(records, group).for_each(|record| record[LEVEL] = record[PRESETS + group])
+        Extended::Recall(group) => {
+            reached(records, group).for_each(|record| record[LEVEL] = record[PRESETS + group.number])
         }
-        Extended::GroupOff { group } => members(records, group).for_each(|record| record[LEVEL] = 0),
+        Extended::GroupOff(group) => reached(records, group).for_each(|record| record[LEVEL] = 0),
         Extended::Step { group, up } => {
-            for lamp in members(records, group).filter(|record| record[KIND] == LAMP) {
+            for lamp in reached(records, group).filter(|record| record[KIND] == LAMP) {
                 lamp[LEVEL] = step(lamp[LEVEL], up);
             }
         }
@@ -350,380 +377,34 @@ fn extended_acts(records: &mut [Record], unit: usize, extended: Extended) {
     }
 }
 
-fn members(records: &mut [Record], group: usize) -> impl Iterator<Item = &mut Record> {
-    records.iter_mut().filter(move |record| is_member(record, group))
+/// Those that a command for a group reaches: its absolute members, and those with the reference that the
+/// command is relative to.
+fn reached(records: &mut [Record], group: Group) -> impl Iterator<Item = &mut Record> {
+    records.iter_mut().filter(move |record| {
+        let reference = record[REFERENCES + group.number];
+        is_member(record, group.number) && (reference == ABSOLUTE || reference == group.reference)
+    })
 }
 
-/// A present unit joins a group.
-fn join(record: &mut Record, group: usize, preset: u8) {
+/// A present unit joins a group, also anew.
+fn join(record: &mut Record, group: Group, preset: u8) {
     if record[KIND] != NONE {
-        record[GROUPS] |= 1 << group;
-        record[PRESETS + group] = preset;
+        record[GROUPS] |= 1 << group.number;
+        record[PRESETS + group.number] = preset;
+        record[REFERENCES + group.number] = group.reference;
     }
 }
 
-/// A unit leaves the groups of a mask. An absent one has none to leave.
+/// A unit leaves the groups of a mask, whatever its references. An absent one has none to leave.
 fn leave(record: &mut Record, groups: u8) {
     record[GROUPS] &= !groups;
     for group in 0..4 {
         if groups >> group & 1 == 1 {
             record[PRESETS + group] = 0;
+            record[REFERENCES + group] = 0;
         }
     }
 }
 
 #[cfg(test)]
-mod tests {
-    use super::*;
-    use crate::{shutters, tables};
-
-    /// Applies a message where there are no shutters.
-    fn apply(table: &mut [u8], message: Message) -> Result<usize, Refusal> {
-        let counts = tables::apply(table, &mut [0; shutters::LEN], message)?;
-        assert_eq!(counts.shutters, 0);
-        Ok(counts.modules)
-    }
-
-    /// A table with one module, A1.
-    fn with_a1(record: Record) -> Vec<u8> {
-        house_a(&[record])
-    }
-
-    /// A table with these modules from A1 on, and their number above level 0.
-    fn house_a(records: &[Record]) -> Vec<u8> {
-        let mut table = vec![0; LEN];
-        table[..RECORD * records.len()].copy_from_slice(&records.concat());
-        table[LIT] = records.iter().filter(|record| record[LEVEL] != 0).count() as u8;
-        table
-    }
-
-    fn function(function: Function) -> Message {
-        Message::Function { house: 0, function }
-    }
-
-    fn extended(data: u8, command: u8) -> Message {
-        Message::Extended { house: 0, unit: 0, data, command }
-    }
-
-    /// The record that a message makes of A1, and the count. A's byte says whether A1 is lit then.
-    fn after(record: Record, message: Message) -> (Record, usize) {
-        let mut table = with_a1(record);
-        let count = apply(&mut table, message).unwrap();
-        assert_eq!(lit(&table, 0), Ok(usize::from(table[LEVEL] > 0)));
-        (table[..RECORD].try_into().unwrap(), count)
-    }
-
-    /// What house A says is lit after each of the messages, all of which are carried.
-    fn lit_after(mut table: Vec<u8>, messages: &[Message]) -> Vec<usize> {
-        let one = |message: &Message| {
-            apply(&mut table, *message).unwrap();
-            lit(&table, 0).unwrap()
-        };
-        messages.iter().map(one).collect()
-    }
-
-    fn level_after(record: Record, message: Message) -> u8 {
-        after(record, message).0[LEVEL]
-    }
-
-    /// Addressed lamps, and others that are not.
-    const LAMP_AT: fn(u8) -> Record = |level| [LAMP, level, 1, 0, 0, 0, 0, 0];
-    const DARK: Record = [LAMP, 0, 0, 0, 0, 0, 0, 0];
-    const OFF: Record = [APPLIANCE, 0, 0, 0, 0, 0, 0, 0];
-    const RUNNING: Record = [APPLIANCE, 63, 0, 0, 0, 0, 0, 0];
-
-    #[test]
-    fn p8_lamp_2_dim() {
-        assert_eq!(level_after(LAMP_AT(2), function(Function::Dim)), 1);
-    }
-
-    #[test]
-    fn p9_lamp_0_dim() {
-        assert_eq!(level_after(LAMP_AT(0), function(Function::Dim)), 60);
-    }
-
-    #[test]
-    fn p10_lamp_62_bright() {
-        assert_eq!(level_after(LAMP_AT(62), function(Function::Bright)), 63);
-    }
-
-    #[test]
-    fn p11_lamp_31_with_c0() {
-        assert_eq!(level_after(LAMP_AT(20), extended(0xC0, 0x31)), 0);
-    }
-
-    #[test]
-    fn p12_appliance_31_with_05() {
-        assert_eq!(level_after([APPLIANCE, 0, 0, 0, 0, 0, 0, 0], extended(0x05, 0x31)), 63);
-    }
-
-    #[test]
-    fn on_leaves_a_lit_module() {
-        assert_eq!(after(LAMP_AT(7), function(Function::On)), (LAMP_AT(7), 0));
-        assert_eq!(after(LAMP_AT(0), function(Function::On)), (LAMP_AT(63), 1));
-        assert_eq!(after([LAMP, 0, 0, 0, 0, 0, 0, 0], function(Function::On)).1, 0);
-    }
-
-    #[test]
-    fn all_units_off_unaddresses() {
-        assert_eq!(after(LAMP_AT(7), function(Function::AllUnitsOff)), ([LAMP, 0, 0, 0, 0, 0, 0, 0], 1));
-    }
-
-    #[test]
-    fn all_lights_reach_lamps_only() {
-        let appliance = [APPLIANCE, 63, 1, 0, 0, 0, 0, 0];
-        assert_eq!(after(appliance, function(Function::AllLightsOff)), (appliance, 0));
-        assert_eq!(level_after([LAMP, 4, 0, 0, 0, 0, 0, 0], function(Function::AllLightsOff)), 0);
-        assert_eq!(level_after([LAMP, 4, 0, 0, 0, 0, 0, 0], function(Function::AllLightsOn)), 63);
-    }
-
-    #[test]
-    fn dim_moves_no_appliance() {
-        let appliance = [APPLIANCE, 63, 1, 0, 0, 0, 0, 0];
-        assert_eq!(after(appliance, function(Function::Dim)), (appliance, 0));
-    }
-
-    #[test]
-    fn an_address_after_a_function_starts_anew() {
-        let mut table = with_a1(LAMP_AT(5));
-        let byte = RECORDS * RECORD;
-        table[RECORD] = LAMP;
-        assert_eq!(apply(&mut table, function(Function::HailRequest)), Ok(0));
-        assert_eq!(table[byte], 1);
-        assert_eq!(apply(&mut table, Message::Address { house: 0, unit: 1 }), Ok(0));
-        assert_eq!((table[ADDRESSED], table[RECORD + ADDRESSED], table[byte]), (0, 1, 0));
-        assert_eq!(apply(&mut table, Message::Address { house: 0, unit: 0 }), Ok(0));
-        assert_eq!((table[ADDRESSED], table[RECORD + ADDRESSED]), (1, 1));
-        // An absent unit is not addressed, and still clears the house.
-        assert_eq!(apply(&mut table, function(Function::StatusOn)), Ok(0));
-        assert_eq!(apply(&mut table, Message::Address { house: 0, unit: 9 }), Ok(0));
-        assert_eq!((table[ADDRESSED], table[RECORD + ADDRESSED], table[byte]), (0, 0, 0));
-        assert_eq!(table[9 * RECORD..10 * RECORD], [0; RECORD]);
-    }
-
-    #[test]
-    fn extended_commands_touch_neither_addressing_nor_house_bytes() {
-        let mut table = with_a1(LAMP_AT(5));
-        let byte = RECORDS * RECORD;
-        for heard in [0, 1] {
-            table[byte] = heard;
-            for command in 0..=255 {
-                let _ = apply(&mut table, extended(0, command));
-                assert_eq!((table[ADDRESSED], table[byte]), (1, heard));
-            }
-        }
-    }
-
-    #[test]
-    fn groups() {
-        let joined = after(LAMP_AT(5), extended(0x80, 0x30)).0;
-        assert_eq!(joined, [LAMP, 5, 1, 4, 0, 0, 5, 0]);
-        let (preset, count) = after(joined, extended(0x4A, 0x32));
-        assert_eq!((preset, count), ([LAMP, 5, 1, 6, 0, 10, 5, 0], 0));
-        assert_eq!(level_after(preset, extended(0x40, 0x36)), 10);
-        assert_eq!(level_after(preset, extended(0x50, 0x36)), 0);
-        assert_eq!(level_after(preset, extended(0x00, 0x36)), 5);
-        assert_eq!(level_after(preset, extended(0x50, 0x3C)), 8);
-        assert_eq!(level_after(preset, extended(0x40, 0x3C)), 2);
-        assert_eq!(after(preset, extended(0x02, 0x35)).0, [LAMP, 5, 1, 4, 0, 0, 5, 0]);
-        assert_eq!(after(preset, extended(0xFF, 0x35)).0, LAMP_AT(5));
-        assert_eq!(after(preset, extended(0x00, 0x35)).0, preset);
-        let appliance = [APPLIANCE, 63, 0, 0, 0, 0, 0, 0];
-        assert_eq!(after(appliance, extended(0xC1, 0x32)).0, [APPLIANCE, 63, 0, 8, 0, 0, 0, 63]);
-        assert_eq!(after(appliance, extended(0xC0, 0x32)).0, [APPLIANCE, 63, 0, 8, 0, 0, 0, 0]);
-        // Joined at level 0: a member with preset 0.
-        assert_eq!(after(LAMP_AT(0), extended(0x00, 0x30)).0, [LAMP, 0, 1, 1, 0, 0, 0, 0]);
-        // 3C on a lamp at 0.
-        let dark = [LAMP, 0, 0, 1, 0, 0, 0, 0];
-        assert_eq!(level_after(dark, extended(0x00, 0x3C)), 60);
-        assert_eq!(level_after(dark, extended(0x10, 0x3C)), 63);
-    }
-
-    #[test]
-    fn what_is_carried() {
-        let mut carried = Vec::new();
-        for command in 0..=255u8 {
-            let count = (0..=255).filter(|&data| Extended::read(data, command).is_some()).count();
-            if count > 0 {
-                carried.push((command, count));
-            }
-        }
-        let told = [
-            (0x30, 128),
-            (0x31, 256),
-            (0x32, 256),
-            (0x33, 256),
-            (0x34, 256),
-            (0x35, 32),
-            (0x36, 128),
-            (0x37, 132),
-            (0x38, 256),
-            (0x39, 256),
-            (0x3A, 256),
-            (0x3B, 256),
-            (0x3C, 128),
-        ];
-        assert_eq!(carried, told);
-    }
-
-    #[test]
-    fn refusals_in_order_and_nothing_changed() {
-        let none = Message::Extended { house: 0, unit: 16, data: 0, command: 0x33 };
-        assert_eq!(apply(&mut [0; LEN - 1], none), Err(Refusal::Table));
-        let mut bad = with_a1([LAMP, 64, 0, 0, 0, 0, 0, 0]);
-        let copy = bad.clone();
-        assert_eq!(apply(&mut bad, none), Err(Refusal::Message));
-        assert_eq!(apply(&mut bad, extended(0x20, 0x30)), Err(Refusal::Record));
-        assert_eq!(bad, copy);
-        let mut good = with_a1(LAMP_AT(9));
-        let copy = good.clone();
-        assert_eq!(apply(&mut good, extended(0x20, 0x30)), Err(Refusal::NotCarried));
-        assert_eq!(good, copy);
-    }
-
-    #[test]
-    fn records_that_break_a_rule() {
-        let bad: [Record; 13] = [
-            [3, 0, 0, 0, 0, 0, 0, 0],
-            [NONE, 1, 0, 0, 0, 0, 0, 0],
-            [NONE, 0, 1, 0, 0, 0, 0, 0],
-            [NONE, 0, 0, 1, 0, 0, 0, 0],
-            [NONE, 0, 0, 0, 0, 0, 0, 1],
-            [LAMP, 64, 0, 0, 0, 0, 0, 0],
-            [LAMP, 0, 2, 0, 0, 0, 0, 0],
-            [LAMP, 0, 0, 16, 0, 0, 0, 0],
-            [LAMP, 0, 0, 1, 64, 0, 0, 0],
-            [LAMP, 0, 0, 1, 0, 1, 0, 0],
-            [APPLIANCE, 62, 0, 0, 0, 0, 0, 0],
-            [APPLIANCE, 0, 0, 8, 0, 0, 0, 62],
-            [APPLIANCE, 0, 0, 7, 0, 0, 0, 63],
-        ];
-        for record in bad {
-            let mut table = with_a1(record);
-            assert_eq!(apply(&mut table, function(Function::On)), Err(Refusal::Record), "{record:?}");
-        }
-        let mut table = with_a1(LAMP_AT(0));
-        table[LIT - 1] = 2;
-        assert_eq!(apply(&mut table, function(Function::On)), Err(Refusal::Record));
-    }
-
-    #[test]
-    fn the_byte_follows_functions() {
-        use Function::{AllLightsOff, AllLightsOn, AllUnitsOff, Bright, Dim, Off, On, StatusOn};
-        let after = |records: &[Record], functions: &[Function]| {
-            lit_after(house_a(records), &functions.iter().map(|&each| function(each)).collect::<Vec<_>>())
-        };
-        let three = [LAMP_AT(0), DARK, RUNNING];
-        assert_eq!(after(&three, &[On, StatusOn, Off, Dim, Dim]), [2, 2, 1, 2, 2]);
-        assert_eq!(after(&three, &[AllLightsOn, AllLightsOff, Bright]), [3, 1, 2]);
-        assert_eq!(after(&three, &[AllLightsOn, AllUnitsOff, On]), [3, 0, 0]);
-        // A lamp that is dimmed stays lit.
-        assert_eq!(after(&[LAMP_AT(2)], &[Dim, Dim]), [1, 1]);
-        assert_eq!(after(&[LAMP_AT(0); UNITS], &[On, Bright, Off]), [16, 16, 0]);
-    }
-
-    #[test]
-    fn the_byte_follows_extended_commands() {
-        let unit = |unit, data, command| Message::Extended { house: 0, unit, data, command };
-        let level = |at, data| unit(at, data, 0x31);
-        let room = house_a(&[DARK, LAMP_AT(9), OFF]);
-        // A dark lamp, the same once more, an appliance, each back to 0, and an absent unit.
-        let levels = [level(0, 1), level(0, 63), level(2, 5), level(0, 0xC0), level(2, 0x40), level(9, 7)];
-        assert_eq!(lit_after(room.clone(), &levels), [2, 2, 3, 2, 1, 1]);
-        let (all, none) = (unit(9, 0, 0x33), unit(9, 0, 0x34));
-        assert_eq!(lit_after(room.clone(), &[all, all, none, none]), [3, 3, 0, 0]);
-        // Group 1 has A1 at 20 and A2 at 0; when it is called, one goes on and the other off.
-        let groups =
-            [unit(0, 0x40 + 20, 0x32), unit(1, 0x40, 0x32), unit(9, 0x40, 0x36), unit(9, 0x50, 0x36)];
-        assert_eq!(lit_after(room.clone(), &groups), [1, 1, 1, 0]);
-        let steps = [groups[0], unit(9, 0x40, 0x3C), unit(9, 0x50, 0x36), unit(9, 0x50, 0x3C)];
-        assert_eq!(lit_after(room, &steps), [1, 2, 1, 2]);
-    }
-
-    #[test]
-    fn each_house_has_its_own_byte() {
-        let mut table = vec![0; LEN];
-        table[..RECORDS * RECORD].as_chunks_mut().0.fill(DARK);
-        for house in 0..16 {
-            let on = Message::Function { house, function: Function::AllLightsOn };
-            assert_eq!(apply(&mut table, on), Ok(16));
-            let mut told = [0; HOUSES];
-            told[..=usize::from(house)].fill(16);
-            assert_eq!(table[LIT..], told);
-        }
-        assert_eq!(table[RECORDS * RECORD..LIT], [1; HOUSES]);
-    }
-
-    #[test]
-    fn a_byte_that_disagrees_breaks_a_rule() {
-        let records = [LAMP_AT(1), DARK, RUNNING];
-        for byte in 0..=255 {
-            let mut table = house_a(&records);
-            table[LIT] = byte;
-            let copy = table.clone();
-            let told = if byte == 2 { Ok(0) } else { Err(Refusal::Record) };
-            assert_eq!(apply(&mut table, function(Function::HailRequest)), told, "{byte}");
-            assert_eq!(table[LIT..], copy[LIT..]);
-            // 4 comes after it.
-            let told = if byte == 2 { Refusal::NotCarried } else { Refusal::Record };
-            let mut table = copy.clone();
-            assert_eq!(apply(&mut table, extended(0x20, 0x30)), Err(told), "{byte}");
-            assert_eq!(table, copy);
-        }
-        // Every house is judged, whichever the message is for.
-        for house in 0..HOUSES {
-            let mut table = house_a(&records);
-            table[LIT + house] += 1;
-            assert_eq!(apply(&mut table, function(Function::HailRequest)), Err(Refusal::Record));
-        }
-    }
-
-    #[test]
-    fn the_question_reads_its_byte_alone() {
-        // Whatever the records are: 5 for a table with no module, and where every other byte is 255.
-        for other in [0, 255] {
-            for house in 0..16 {
-                let mut table = [other; LEN];
-                let place = LIT + usize::from(house);
-                for byte in 0..=16 {
-                    table[place] = byte;
-                    assert_eq!(lit(&table, house), Ok(usize::from(byte)));
-                }
-                for byte in 17..=255 {
-                    table[place] = byte;
-                    assert_eq!(lit(&table, house), Err(Refusal::Record));
-                }
-            }
-        }
-    }
-
-    #[test]
-    fn the_question_refuses_in_order() {
-        let table = [255; LEN + 1];
-        for len in [0, LIT - 1, LIT, LEN - 1, LEN + 1] {
-            for house in [0, 15, 16, 255] {
-                assert_eq!(lit(&table[..len], house), Err(Refusal::Table));
-                assert_eq!(counted(&table[..len], house), Err(Refusal::Table));
-            }
-        }
-        for house in 16..=255 {
-            assert_eq!(lit(&table[..LEN], house), Err(Refusal::Message));
-            assert_eq!(counted(&table[..LEN], house), Err(Refusal::Message));
-        }
-        assert_eq!(lit(&table[..LEN], 15), Err(Refusal::Record));
-        assert_eq!((LIT, LEN), (2064, 2080));
-    }
-
-    #[test]
-    fn the_question_equals_the_count_over_a_valid_table() {
-        for n in 0..=UNITS {
-            let mut records = [DARK; UNITS];
-            records[UNITS - n..].fill(LAMP_AT(1));
-            records[0] = if n == UNITS { RUNNING } else { OFF };
-            let mut table = house_a(&records);
-            assert_eq!(apply(&mut table, function(Function::HailRequest)), Ok(0));
-            assert_eq!((lit(&table, 0), counted(&table, 0)), (Ok(n), Ok(n)));
-            assert_eq!((lit(&table, 1), counted(&table, 1)), (Ok(0), Ok(0)));
-        }
-    }
-}
+mod tests;

@@ -7,7 +7,7 @@ pub const VERSION: &str = env!("CARGO_PKG_VERSION");
 /// Numbers given back: 0, or that of a refusal. PAIR and UNSUPPORTED are events of a receiver.
 pub mod number {
     pub const OK: u8 = 0;
-    /// The module table's length is not 2,080.
+    /// The module table's length is not 3,104.
     pub const TABLE: u8 = 1;
     /// A house or unit above 15, or a kind or function code that makes no message.
     pub const MESSAGE: u8 = 2;
@@ -49,7 +49,7 @@ pub mod number {
 pub const fn text(number: u8) -> &'static str {
     match number {
         number::OK => "done",
-        number::TABLE => "TABLE: the module table's length is not 2,080",
+        number::TABLE => "TABLE: the module table's length is not 3,104",
         number::MESSAGE => "MESSAGE: house or unit above 15, or no message",
         number::RECORD => "RECORD: the module table breaks a rule",
         number::NOT_CARRIED => "NOT CARRIED: tables do not carry this message",
@@ -148,7 +148,13 @@ pub mod record {
     pub const GROUPS: usize = 3;
     /// Four bytes of 0 to 63, group 0 first.
     pub const PRESETS: usize = 4;
+    /// Four bytes in the same order: 0 to 15, or [`crate::ABSOLUTE`], where the module is a member, else 0.
+    pub const REFERENCES: usize = 8;
 }
+
+/// The reference of an absolute member: each execution, off or step of its group reaches it. A member with
+/// a reference of 0 to 15 is reached only by those that are relative to that reference.
+pub const ABSOLUTE: u8 = 16;
 
 /// Where the record of a house and unit, both 0 to 15, begins in a module table.
 pub const fn record_at(house: u8, unit: u8) -> usize {
@@ -201,13 +207,13 @@ pub const EVENT_BYTES: usize = 6;
 /// Bytes of an answer in lent memory.
 pub const ANSWER_BYTES: usize = 8;
 /// Bytes of a module table.
-pub const TABLE_BYTES: usize = 2080;
+pub const TABLE_BYTES: usize = 3104;
 /// Bytes of a record of a module table.
-pub const RECORD_BYTES: usize = 8;
+pub const RECORD_BYTES: usize = 12;
 /// Where a module table's "command heard" bytes begin, one for each house.
-pub const HEARD_AT: usize = 2048;
+pub const HEARD_AT: usize = 3072;
 /// Where the bytes begin that say how many modules of each house are above level 0.
-pub const LIT_AT: usize = 2064;
+pub const LIT_AT: usize = 3088;
 /// Bytes of a shutter table.
 pub const SHUTTER_TABLE_BYTES: usize = 5120;
 /// Bytes of a shutter in its table.

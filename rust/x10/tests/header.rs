@@ -65,6 +65,8 @@ fn binding_numbers() -> BTreeMap<&'static str, usize> {
         ADDRESSED_AT: record::ADDRESSED,
         GROUPS_AT: record::GROUPS,
         PRESETS_AT: record::PRESETS,
+        REFERENCES_AT: record::REFERENCES,
+        ABSOLUTE: ABSOLUTE,
         PRESENT_AT: shutter::PRESENT,
         OPENING_AT: shutter::OPENING,
         LIMIT_AT: shutter::LIMIT,
@@ -143,9 +145,10 @@ fn the_texts() {
 
 #[test]
 fn where_records_begin() {
-    assert_eq!((record_at(0, 0), record_at(0, 15), record_at(1, 0)), (0, 120, 128));
+    assert_eq!((record_at(0, 0), record_at(0, 15), record_at(1, 0)), (0, 180, 192));
     assert_eq!(record_at(15, 15) + RECORD_BYTES, HEARD_AT);
     assert_eq!((HEARD_AT + 16, LIT_AT + 16), (LIT_AT, TABLE_BYTES));
+    assert_eq!((record::PRESETS + 4, record::REFERENCES + 4), (record::REFERENCES, RECORD_BYTES));
 }
 
 #[test]

@@ -1,5 +1,4 @@
--- `load` meets its contract: the eight bytes are read from where the definition has them.
-use mathlib.Core.Path.{refl}
+-- `load` meets its contract: the bytes are read from where the definition has them.
 use Rattle.record.specs.Layout.{recordAt}
 use borrow.Author.Needs.{needs}
 use Rattle.module_table.proofs.load.Statement.{statement}
@@ -8,73 +7,49 @@ use Rattle.module_table.proofs.load.Tie as tie
 mul-at : tie.Need-mul-at
 mul-at c = search needs
 
-shared-slice-read-t5 : tie.Need-shared-slice-read-t5
-shared-slice-read-t5 c = search needs
+add-t5 : tie.Need-add-t5
+add-t5 c = search needs
 
-add-t6 : tie.Need-add-t6
-add-t6 c = search needs
+shared-slice-read-t7 : tie.Need-shared-slice-read-t7
+shared-slice-read-t7 c = search needs
 
-shared-slice-read-t8 : tie.Need-shared-slice-read-t8
-shared-slice-read-t8 c = search needs
+four-at-requires : tie.Need-four-at-requires
+four-at-requires c κs = search needs
 
-add-t9 : tie.Need-add-t9
-add-t9 c = search needs
+four-at-requires-2 : tie.Need-four-at-requires-2
+four-at-requires-2 c κs = search needs
 
-shared-slice-read-t11 : tie.Need-shared-slice-read-t11
-shared-slice-read-t11 c = search needs
+shared-slice-read-t7-2 : tie.Need-shared-slice-read-t7-2
+shared-slice-read-t7-2 c = search needs
 
-add-t12 : tie.Need-add-t12
-add-t12 c = search needs
+add-t5-2 : tie.Need-add-t5-2
+add-t5-2 c = search needs
 
-shared-slice-read-t14 : tie.Need-shared-slice-read-t14
-shared-slice-read-t14 c = search needs
+shared-slice-read-t12 : tie.Need-shared-slice-read-t12
+shared-slice-read-t12 c = search needs
 
-add-t15 : tie.Need-add-t15
-add-t15 c = search needs
+add-t13 : tie.Need-add-t13
+add-t13 c = search needs
 
-shared-slice-read-t17 : tie.Need-shared-slice-read-t17
-shared-slice-read-t17 c = search needs
-
-add-t18 : tie.Need-add-t18
-add-t18 c = search needs
-
-shared-slice-read-t20 : tie.Need-shared-slice-read-t20
-shared-slice-read-t20 c = search needs
-
-add-t21 : tie.Need-add-t21
-add-t21 c = search needs
-
-shared-slice-read-t23 : tie.Need-shared-slice-read-t23
-shared-slice-read-t23 c = search needs
-
-add-t24 : tie.Need-add-t24
-add-t24 c = search needs
-
-shared-slice-read-t26 : tie.Need-shared-slice-read-t26
-shared-slice-read-t26 c = search needs
+shared-slice-read-t15 : tie.Need-shared-slice-read-t15
+shared-slice-read-t15 c = search needs
 
 returns : tie.Need-returns
 unfolding recordAt
-returns c = refl
+returns c = rw (c .before .before .before .four-at2 .ensures, c .before .before .before .before .four-at .ensures)
 
 pub load-spec : {M : Type 1} → statement M
 load-spec =
     tie.close
     (tie.spec
     mul-at
-    shared-slice-read-t5
-    add-t6
-    shared-slice-read-t8
-    add-t9
-    shared-slice-read-t11
-    add-t12
-    shared-slice-read-t14
-    add-t15
-    shared-slice-read-t17
-    add-t18
-    shared-slice-read-t20
-    add-t21
-    shared-slice-read-t23
-    add-t24
-    shared-slice-read-t26
+    add-t5
+    shared-slice-read-t7
+    four-at-requires
+    four-at-requires-2
+    shared-slice-read-t7-2
+    add-t5-2
+    shared-slice-read-t12
+    add-t13
+    shared-slice-read-t15
     returns)

@@ -74,24 +74,6 @@ enum-told-5 c = search needs
 reaching-requires-10 : tie.Need-reaching-requires-10
 reaching-requires-10 c κs = search needs
 
-enum-told-6 : tie.Need-enum-told-6
-enum-told-6 c = search needs
-
-reaching-requires-11 : tie.Need-reaching-requires-11
-reaching-requires-11 c κs = search needs
-
-enum-told-7 : tie.Need-enum-told-7
-enum-told-7 c = search needs
-
-reaching-requires-12 : tie.Need-reaching-requires-12
-reaching-requires-12 c κs = search needs
-
-enum-told-8 : tie.Need-enum-told-8
-enum-told-8 c = search needs
-
-reaching-requires-13 : tie.Need-reaching-requires-13
-reaching-requires-13 c κs = search needs
-
 returns : tie.Need-returns
 returns c = rw (c .before .enum-told .given .1, c .reaching .ensures) (record { stays = λ n r q. still _ _ _ _ refl })
 
@@ -129,15 +111,6 @@ returns-10 c = rw (c .reaching9 .ensures) (record { stays = λ n r q. absurd (un
 returns-11 : tie.Need-returns-11
 returns-11 c = rw (c .reaching10 .ensures) (record { stays = λ n r q. absurd (unpassed n r q) })
 
-returns-12 : tie.Need-returns-12
-returns-12 c = rw (c .reaching11 .ensures) (record { stays = λ n r q. absurd (unpassed n r q) })
-
-returns-13 : tie.Need-returns-13
-returns-13 c = rw (c .reaching12 .ensures) (record { stays = λ n r q. absurd (unpassed n r q) })
-
-returns-14 : tie.Need-returns-14
-returns-14 c = rw (c .reaching13 .ensures) (record { stays = λ n r q. absurd (unpassed n r q) })
-
 pub reach-of-spec : {M : Type 1} → statement M
 reach-of-spec =
     tie.close
@@ -165,12 +138,6 @@ reach-of-spec =
     reaching-requires-9
     enum-told-5
     reaching-requires-10
-    enum-told-6
-    reaching-requires-11
-    enum-told-7
-    reaching-requires-12
-    enum-told-8
-    reaching-requires-13
     returns
     returns-2
     returns-3
@@ -181,7 +148,4 @@ reach-of-spec =
     returns-8
     returns-9
     returns-10
-    returns-11
-    returns-12
-    returns-13
-    returns-14)
+    returns-11)

@@ -19,8 +19,8 @@ same-length c = search needs
 returns : tie.Need-returns
 returns c own =
     let start = c .before .before .before .before .before .before .before .before in
-    regrouped _ _ _ _ _ (start .pre .0) (start .pre .1) (start .pre .2) _ (c .before .before .before .before .load .ensures) _ _ (start .pre .3)
-    (c .before .before .before .groups-after .ensures own) (c .before .before .store .ensures)
+    regrouped _ _ _ _ _ (start .pre .0) (start .pre .1) (start .pre .2) _ (c .before .before .before .before .before .load .ensures) _ _ (start .pre .3)
+    (c .before .before .before .before .groups-after .ensures own) (c .before .before .store .ensures)
 
 pub step-groups-spec : {M : Type 1} → statement M
 step-groups-spec =

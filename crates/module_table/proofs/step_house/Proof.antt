@@ -7,7 +7,7 @@ use Rattle.ground.specs.Records.{sumBelow}
 use Rattle.ground.proofs.Records.{stepped-length, Turn, turn-first, turn-length, turn-next, turn-last}
 use Rattle.record.specs.Layout.{UNITS, RECORDS, modules}
 use Rattle.record.specs.ModuleTable.{litTo, stepRecord, levelOf}
-use Rattle.module_table.proofs.TableLaws.{modules-laid, step-keeps, lit-next, lit-put}
+use Rattle.module_table.proofs.TableLaws.{modules-laid, step-keeps, step-sound, lit-next, lit-put}
 use Rattle.module_table.proofs.step_house.Statement.{statement}
 use Rattle.module_table.proofs.step_house.Tie as tie
 
@@ -68,7 +68,7 @@ loop-again c =
     let step = c .before .before .before .before .step-at .ensures in (
       turn-next modules modules-laid levelOf _ (step-keeps _ _) _ _ _ _ _ _ _ (loop .inv .0) _ _
           (c .before .before .before .before .before .before .loop-test .taken) (omega arith) (omega arith) step,
-      lit-next _ (start .args .house) _ _ _ (loop .inv .1 ∙ lit-put _ _ (start .args .house) _ _ (step .table)) (c .lit-at .ensures .0),
+      lit-next _ (start .args .house) _ _ _ (loop .inv .1 ∙ lit-put _ _ (start .args .house) _ _ (step-sound _ _ _ _ _) (step .table)) (c .lit-at .ensures .0),
       omega (arith, c .lit-at .ensures .1, loop .inv .2),
     )
 

@@ -1,7 +1,10 @@
--- `store` meets its contract: the eight stores are the definition's run of stores.
+-- `store` meets its contract: four bytes, the presets and the references are put one after the other, as the definition lists them.
+use mathlib.Core.Path.{_∙_}
+use Prim.Native.Nat.{_*_}
 use native.Mathlib.Omega.{arith}
-use native.Mathlib.Numerals.{towards-suc}
 use lib.ListN.{length-set}
+use Rattle.record.specs.Layout.{RECORD-BYTES}
+use Rattle.module_table.proofs.TableLaws.{stored}
 use borrow.Author.Needs.{needs}
 use Rattle.module_table.proofs.store.Statement.{statement}
 use Rattle.module_table.proofs.store.Tie as tie
@@ -30,35 +33,28 @@ add-t-3 c = search needs
 slice-write-t-4 : tie.Need-slice-write-t-4
 slice-write-t-4 c = simp length-set (omega arith)
 
-add-t-4 : tie.Need-add-t-4
-add-t-4 c = search needs
+add-put-four : tie.Need-add-put-four
+add-put-four c = search needs
 
-slice-write-t-5 : tie.Need-slice-write-t-5
-slice-write-t-5 c = simp length-set (omega arith)
+put-four-requires : tie.Need-put-four-requires
+put-four-requires c κs = (simp length-set (c .before .before .before .before .before .pre .0), omega arith)
 
-add-t-5 : tie.Need-add-t-5
-add-t-5 c = search needs
+add-put-four-2 : tie.Need-add-put-four-2
+add-put-four-2 c = search needs
 
-slice-write-t-6 : tie.Need-slice-write-t-6
-slice-write-t-6 c = simp length-set (omega arith)
-
-add-t-6 : tie.Need-add-t-6
-add-t-6 c = search needs
-
-slice-write-t-7 : tie.Need-slice-write-t-7
-slice-write-t-7 c = simp length-set (omega arith)
-
-add-t-7 : tie.Need-add-t-7
-add-t-7 c = search needs
-
-slice-write-t-8 : tie.Need-slice-write-t-8
-slice-write-t-8 c = simp length-set (omega arith)
+put-four-requires-2 : tie.Need-put-four-requires-2
+put-four-requires-2 c κs =
+    let start = c .before .before .before .before .before .before .before .before .before in
+    (c .before .before .t .given ∙ simp length-set (start .pre .0), omega arith)
 
 same-length : tie.Need-same-length
-same-length c = search needs
+same-length c = c .before .t2 .given ∙ c .before .before .before .before .before .t .given ∙ simp length-set
 
 returns : tie.Need-returns
-returns c = simp towards-suc
+returns c =
+    let first = c .before .before .before .before .before .before .put-four .ensures in
+    let start = c .before .before .before .before .before .before .before .before .before .before .before .before in
+    c .before .before .put-four2 .ensures .0 ∙ rw (first .0) (stored (start .args .t .now) (start .args .i * RECORD-BYTES) (start .args .r) (first .1))
 
 pub store-spec : {M : Type 1} → statement M
 store-spec =
@@ -72,13 +68,9 @@ store-spec =
     slice-write-t-3
     add-t-3
     slice-write-t-4
-    add-t-4
-    slice-write-t-5
-    add-t-5
-    slice-write-t-6
-    add-t-6
-    slice-write-t-7
-    add-t-7
-    slice-write-t-8
+    add-put-four
+    put-four-requires
+    add-put-four-2
+    put-four-requires-2
     same-length
     returns)

@@ -1,4 +1,5 @@
--- `units_ok` meets its contract: each record of a house whose bytes are zeros keeps the rules, and none of its modules is lit.
+-- `units_ok` meets its contract: each record of a house whose bytes are zeros keeps the rules, and none of its modules is lit;
+-- where the quick test finds no fault each keeps them too.
 use mathlib.Core.Path.{_≡_, sym, _∙_}
 use mathlib.Core.Bool.{Bool, true}
 use mathlib.Core.List.{[]}
@@ -48,8 +49,8 @@ returns c =
     let lit : litIn (args .t .now) (args .house) ≡ 0 = lit-none (args .t .now) (args .house) UNITS (each (λ r. eqb (r .level) 0) zeros-dark) in
     rw (each recordOk zeros-ok, lit, c .before .before .before .before .house-at .ensures)
 
-judge-each-requires : tie.Need-judge-each-requires
-judge-each-requires c κs = search needs
+quick-each-requires : tie.Need-quick-each-requires
+quick-each-requires c κs = search needs
 
 cast-result : tie.Need-cast-result
 cast-result c = search needs
@@ -57,8 +58,20 @@ cast-result c = search needs
 returns-2 : tie.Need-returns-2
 unfolding houseAt
 returns-2 c =
+    let quick = c .before .before .before .quick-each .ensures in
+    rw (quick .0 (c .before .before .if2 .taken), quick .1, c .before .before .before .before .before .before .before .house-at .ensures)
+
+judge-each-requires : tie.Need-judge-each-requires
+judge-each-requires c κs = search needs
+
+cast-result-2 : tie.Need-cast-result-2
+cast-result-2 c = search needs
+
+returns-3 : tie.Need-returns-3
+unfolding houseAt
+returns-3 c =
     let judged = c .before .before .before .judge-each .ensures in
-    rw (judged .0, judged .1, c .before .before .before .before .before .before .before .house-at .ensures)
+    rw (judged .0, judged .1, c .before .before .before .before .before .before .before .before .before .house-at .ensures)
 
 pub units-ok-spec : {M : Type 1} → statement M
 units-ok-spec =
@@ -72,6 +85,9 @@ units-ok-spec =
     part-zeros-end
     zeros-requires
     returns
-    judge-each-requires
+    quick-each-requires
     cast-result
-    returns-2)
+    returns-2
+    judge-each-requires
+    cast-result-2
+    returns-3)

@@ -1,8 +1,8 @@
 //! The mains route: half-cycles through a receiver to both tables.
 
-use super::table::did;
+use super::table::{did, not_carried};
 use super::{changed, damaged, fresh, one, Both};
-use crate::inputs::{self, HEARD, SHUTTER, SHUTTER_TABLE, TABLE};
+use crate::inputs::{self, HEARD, RECORD, SHUTTER, SHUTTER_TABLE, TABLE};
 use crate::lent::Lent;
 use crate::reached;
 use crate::rng::Rng;
@@ -43,14 +43,20 @@ impl<'a> Case<'a> {
     }
 }
 
-const SITUATIONS: [&[&str]; 18] = [
+const SITUATIONS: [&[&str]; 24] = [
     &reached::SLICES,
     &reached::WAITS,
     &reached::WITHIN,
     &reached::WHOLE,
     &reached::SHUTTER_WHOLE,
     &reached::FORMS,
+    &reached::NOT_CARRIED,
     &reached::COUNTS,
+    &reached::JOINED,
+    &reached::LEFT,
+    &reached::CALLED,
+    &reached::CALLED_BY,
+    &reached::REFERENCE_BROKEN,
     &reached::LIT_FORMS,
     &reached::LIT_MOVES,
     &reached::LIT_BROKEN,
@@ -89,7 +95,8 @@ pub fn mains_route(rng: &mut Rng, size: usize) -> Tally {
 }
 
 impl Mains {
-    /// Lines from a fresh receiver, handed over in slices of any length; some of bursts for one house.
+    /// Lines from a fresh receiver, handed over in slices of any length; some of bursts for one house, or
+    /// for a group of it.
     fn lines(&mut self, rng: &mut Rng, valid: Tables, bad: bool) {
         let mut line = Vec::new();
         if rng.one_in(3) {
@@ -101,6 +108,10 @@ impl Mains {
         for _ in 0..10 {
             inputs::presses(rng, bad, &mut line);
             self.slices(rng, valid, &line, &[line.len(), 300]);
+        }
+        if rng.one_in(4) {
+            inputs::group_presses(rng, &mut line);
+            self.slices(rng, valid, &line, &[line.len()]);
         }
     }
 
@@ -152,7 +163,7 @@ impl Mains {
     /// that come back to where they stood.
     fn every_house(&mut self, rng: &mut Rng) {
         let (mut dark, mut closed) = (vec![0; TABLE], vec![0; SHUTTER_TABLE]);
-        dark[..HEARD].chunks_mut(8).for_each(|record| record[0] = 1);
+        dark[..HEARD].chunks_mut(RECORD).for_each(|record| record[0] = 1);
         for shutter in closed.chunks_mut(SHUTTER) {
             shutter.copy_from_slice(&inputs::shutter(rng));
             shutter[1] = 0;
@@ -261,8 +272,10 @@ fn apply_one(
 ) -> Result<Counts, Refusal> {
     let before = (table.to_vec(), shutters.to_vec());
     let applied = bytes::apply(table, shutters, numbers);
-    if let Ok(counts) = applied {
-        did(tally, numbers, counts, [&before.0, table], [&before.1, shutters]);
+    match applied {
+        Ok(counts) => did(tally, numbers, counts, [&before.0, table], [&before.1, shutters]),
+        Err(Refusal::NotCarried) => not_carried(tally, numbers),
+        Err(_) => {}
     }
     applied
 }

@@ -98,11 +98,12 @@ struct Route {
 
 pub fn radio_route(rng: &mut Rng, size: usize) -> Tally {
     // On goes with no off, so as many others are never lit.
-    let situations: [&[&str]; 8] = [
+    let situations: [&[&str]; 9] = [
         &MOVES,
         &reached::COUNTS,
         &reached::LIT_MOVES[..7],
         &reached::LIT_BROKEN,
+        &reached::REFERENCE_BROKEN,
         &reached::SHUTTER_LENGTHS,
         &reached::TABLE_ORDERS,
         &reached::RADIO_ORDERS,

@@ -1,7 +1,7 @@
 //! Messages applied to both tables.
 
 use super::{changed, damaged, lit_right, Both};
-use crate::inputs::{self, HEARD, LIT, SHUTTER, SHUTTER_TABLE, TABLE};
+use crate::inputs::{self, HEARD, LIT, RECORD, SHUTTER, SHUTTER_TABLE, TABLE};
 use crate::reached;
 use crate::rng::Rng;
 use crate::tally::Tally;
@@ -18,10 +18,16 @@ struct Apply {
 const COMMANDS: [std::ops::Range<u8>; 2] = [0x2F..0x3F, 0x00..0x11];
 
 pub fn apply(rng: &mut Rng, size: usize) -> Tally {
-    let situations: [&[&str]; 15] = [
+    let situations: [&[&str]; 21] = [
         &reached::FORMS,
+        &reached::NOT_CARRIED,
         &reached::NAMED,
         &reached::COUNTS,
+        &reached::JOINED,
+        &reached::LEFT,
+        &reached::CALLED,
+        &reached::CALLED_BY,
+        &reached::REFERENCE_BROKEN,
         &reached::LIT_FORMS,
         &reached::LIT_MOVES,
         &reached::LIT_BROKEN,
@@ -46,6 +52,7 @@ pub fn apply(rng: &mut Rng, size: usize) -> Tally {
         inputs::shutters(rng, i / 4 % 4, true, &mut shutters);
         apply.case(Some((&valid, &shutters)), inputs::numbers(rng));
         apply.messages(rng, commands[i % commands.len()]);
+        apply.groups(rng);
         apply.damaged(rng, &valid, &shutters);
         if i % 1000 == 0 {
             apply.every_type_0(rng, &valid, &mut shutters);
@@ -71,6 +78,14 @@ impl Apply {
         let unit = rng.below(16) as u8;
         for data in 0..=255 {
             self.case(None, [3, house, unit, data, command]);
+        }
+    }
+
+    /// Units of a house that join a group, and calls of it.
+    fn groups(&mut self, rng: &mut Rng) {
+        let house = rng.below(16) as u8;
+        for numbers in inputs::joined_and_called(rng, house) {
+            self.case(None, numbers);
         }
     }
 
@@ -102,10 +117,11 @@ impl Apply {
     /// the lit modules of house A as they were, and counted again.
     fn every_byte(&mut self) {
         let mut base = vec![0; TABLE];
-        base[..16].copy_from_slice(&[1, 40, 1, 5, 9, 0, 63, 0, 2, 63, 0, 10, 0, 63, 0, 0]);
+        base[..RECORD].copy_from_slice(&[1, 40, 1, 5, 9, 0, 63, 0, 16, 0, 3, 0]);
+        base[RECORD..][..RECORD].copy_from_slice(&[2, 63, 0, 10, 0, 63, 0, 0, 0, 15, 0, 16]);
         inputs::count_lit(&mut base);
         let shutters = vec![0; SHUTTER_TABLE];
-        for place in (0..24).chain(HEARD..TABLE) {
+        for place in (0..3 * RECORD).chain(HEARD..TABLE) {
             for byte in 0..=255 {
                 let mut damaged = base.clone();
                 damaged[place] = byte;
@@ -194,15 +210,28 @@ impl Apply {
         }
         reached::orders(refusal, wrong, |order| self.tally.reach(order));
         self.both.refused(refusal, &mut self.tally);
-        if refusal == Refusal::ShutterRecord {
-            let broken = reached::broken(self.both.shutters.before());
-            broken.into_iter().for_each(|cause| self.tally.reach(cause));
+        match refusal {
+            Refusal::NotCarried => not_carried(&mut self.tally, numbers),
+            Refusal::ShutterRecord => {
+                let broken = reached::broken(self.both.shutters.before());
+                broken.into_iter().for_each(|cause| self.tally.reach(cause));
+            }
+            _ => {}
         }
     }
 }
 
-/// Counts what a message that was carried did to tables, each before and after. Looks at its counts, at the
-/// lit bytes, and at what it must leave: type 0 the modules, any other the shutters.
+/// Counts a message that was refused by 4, and looks whether tables carry it.
+pub fn not_carried(tally: &mut Tally, numbers: [u8; MESSAGE]) {
+    match reached::not_carried(numbers) {
+        Some(name) => tally.reach(name),
+        None => tally.differ(&format!("message {numbers:?} is one that tables carry")),
+    }
+}
+
+/// Counts what a message that was carried did to tables, each before and after. Looks whether they carry it,
+/// at its counts, at the lit bytes, at references and whom a call of a group reached, and at what it must
+/// leave: type 0 the modules, any other the shutters.
 pub fn did(
     tally: &mut Tally,
     numbers: [u8; MESSAGE],
@@ -215,12 +244,7 @@ pub fn did(
         tally.reach(reached::shutter_count(counts.shutters));
         table
     } else {
-        let form = reached::form(numbers, counts.modules, table[0][..HEARD] != table[1][..HEARD]);
-        form.into_iter().for_each(|form| tally.reach(form));
-        tally.reach(reached::count(counts.modules));
-        reached::lit_form(numbers, table).into_iter().for_each(|form| tally.reach(&form));
-        let moved = reached::lit_move(usize::from(numbers[1]), table);
-        moved.into_iter().for_each(|moved| tally.reach(moved));
+        did_to_modules(tally, numbers, counts.modules, table);
         shutters
     };
     if left[0] != left[1] || counts != changed(table, shutters) {
@@ -229,5 +253,21 @@ pub fn did(
     }
     if !lit_right(table[1]) {
         tally.differ(&format!("message {numbers:?} left a lit byte that disagrees"));
+    }
+    if reached::not_carried(numbers).is_some() {
+        tally.differ(&format!("message {numbers:?} is one that tables do not carry"));
+    }
+}
+
+/// The part of a message that is not of type 0.
+fn did_to_modules(tally: &mut Tally, numbers: [u8; MESSAGE], levels: usize, table: [&[u8]; 2]) {
+    let form = reached::form(numbers, levels, table[0][..HEARD] != table[1][..HEARD]);
+    form.into_iter().for_each(|form| tally.reach(form));
+    tally.reach(reached::count(levels));
+    reached::lit_form(numbers, table).into_iter().for_each(|form| tally.reach(&form));
+    let moved = reached::lit_move(usize::from(numbers[1]), table);
+    moved.into_iter().for_each(|moved| tally.reach(moved));
+    if !reached::grouped(numbers, table, &mut |came| tally.reach(came)) {
+        tally.differ(&format!("message {numbers:?} left other references, or reached others"));
     }
 }

@@ -25,9 +25,6 @@ pub const LIT_BROKEN: [&str; 12] = [
 
 /// Nothing where something else is wrong.
 pub fn lit_broken(table: &[u8]) -> Vec<&'static str> {
-    if table.len() == LIT {
-        return vec!["no lit bytes"];
-    }
     let mut exchanged = table.to_vec();
     exchanged[HEARD..].rotate_left(16);
     if valid(&exchanged) {
@@ -49,7 +46,7 @@ pub fn lit_broken(table: &[u8]) -> Vec<&'static str> {
 }
 
 /// Whether the model finds nothing wrong with a table of modules.
-fn valid(table: &[u8]) -> bool {
+pub fn valid(table: &[u8]) -> bool {
     Table::open(&mut table.to_vec()).is_ok_and(|table| table.judge().is_ok())
 }
 
@@ -67,7 +64,7 @@ fn instead(table: &[u8], house: usize) -> &'static str {
 }
 
 /// Forms of a message by whether they left more modules of the house lit or fewer.
-pub const LIT_FORMS: [&str; 16] = [
+pub const LIT_FORMS: [&str; 21] = [
     "on: more lit",
     "dim: more lit",
     "bright: more lit",
@@ -75,8 +72,11 @@ pub const LIT_FORMS: [&str; 16] = [
     "31: more lit",
     "33: more lit",
     "36 to presets: more lit",
+    "36 relative to presets: more lit",
     "3C bright: more lit",
     "3C dim: more lit",
+    "3C relative bright: more lit",
+    "3C relative dim: more lit",
     "off: fewer lit",
     "all lights off: fewer lit",
     "all units off: fewer lit",
@@ -84,6 +84,8 @@ pub const LIT_FORMS: [&str; 16] = [
     "34: fewer lit",
     "36 to presets: fewer lit",
     "36 to 0: fewer lit",
+    "36 relative to presets: fewer lit",
+    "36 relative to 0: fewer lit",
 ];
 
 /// None where as many are lit, or the message is an address.

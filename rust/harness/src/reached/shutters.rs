@@ -1,7 +1,7 @@
 //! Situations of shutters: lengths, broken rules, what a message of type 0 did.
 
 use super::only;
-use crate::inputs::SHUTTER;
+use crate::inputs::{RECORD, SHUTTER};
 use x10_model::bytes::MESSAGE;
 
 /// The shutter table's length against the one that is asked for.
@@ -196,6 +196,6 @@ pub fn beside([kind, .., command]: [u8; MESSAGE], table: &[u8], shutters: &[u8])
         (_, 0x10..) => BESIDE[2],
         _ => BESIDE[3],
     };
-    let (other, size) = if name == BESIDE[3] { (table, 8) } else { (shutters, SHUTTER) };
+    let (other, size) = if name == BESIDE[3] { (table, RECORD) } else { (shutters, SHUTTER) };
     other.chunks(size).take(256).any(|entry| entry[0] != 0).then_some(name)
 }

@@ -9,7 +9,7 @@ const A_ON: Message = Message::Function { house: 0, function: Function::AllLight
 const A_OFF: Message = Message::Function { house: 0, function: Function::AllLightsOff };
 
 /// An extended message that tables do not carry.
-const NOT_CARRIED: Message = Message::Extended { house: 0, unit: 0, data: 0x20, command: 0x30 };
+const NOT_CARRIED: Message = Message::Extended { house: 0, unit: 0, data: 0x20, command: 0x3D };
 
 fn fresh() -> [u8; RECEIVER] {
     receiver_bytes(&Receiver::FRESH)
@@ -31,7 +31,7 @@ fn line(messages: &[Message]) -> Vec<u8> {
 fn room() -> Vec<u8> {
     let mut table = vec![0; table::LEN];
     table[0] = 1;
-    table[8] = 1;
+    table[12] = 1;
     table
 }
 
@@ -215,10 +215,12 @@ fn a_lit_byte_that_disagrees_is_refused_by_each() {
     let routed = mains_route(&mut fresh(), &[], &mut table, &mut shutters, &mut [], &mut []);
     assert_eq!(routed, Err(Refusal::Record));
     assert_eq!(table, copy);
-    // The question answers it, and is not answered where the table is that of before there was one.
+    // The question answers it, and is not answered where the table has no such bytes or shorter records.
     assert_eq!((lit(&table, 15), lit(&table, 16)), (Ok(1), Err(Refusal::Message)));
-    assert_eq!(lit(&table[..2064], 15), Err(Refusal::Table));
-    assert_eq!(apply(&mut table[..2064], &mut shutters, A1), Err(Refusal::Table));
+    for len in [3088, 2080, 2064] {
+        assert_eq!(lit(&table[..len], 15), Err(Refusal::Table));
+        assert_eq!(apply(&mut table[..len], &mut shutters, A1), Err(Refusal::Table));
+    }
 }
 
 #[test]
@@ -226,7 +228,7 @@ fn a_message_that_is_not_carried_within_a_slice() {
     let mut table = room();
     let run = Run::over(&mut fresh(), &line(&[NOT_CARRIED, A_ON]), &mut table, &mut windows());
     assert_eq!(run.said(), [(GIVEN, 4), (REPEAT, 0), (GIVEN, 2 << 8), (REPEAT, 0)]);
-    assert_eq!((run.counts, table[1], table[9]), (Counts { modules: 2, shutters: 0 }, 63, 63));
+    assert_eq!((run.counts, table[1], table[13]), (Counts { modules: 2, shutters: 0 }, 63, 63));
     assert_eq!(lit(&table, 0), Ok(2));
 }
 
@@ -240,7 +242,7 @@ fn a_second_copy_after_damage_is_applied() {
         halves[place] ^= 1;
         let run = Run::over(&mut fresh(), &halves, &mut table, &mut windows());
         assert_eq!(run.said(), said);
-        assert_eq!((run.counts, table[1], table[9]), (Counts { modules: 2, shutters: 0 }, 63, 63));
+        assert_eq!((run.counts, table[1], table[13]), (Counts { modules: 2, shutters: 0 }, 63, 63));
     }
 }
 
@@ -270,13 +272,13 @@ fn levels_that_come_back_are_not_counted_over_the_whole() {
     let mut table = room();
     let run = Run::over(&mut fresh(), &line(&[A_ON, A_OFF]), &mut table, &mut windows());
     assert_eq!(run.said(), [(GIVEN, 2 << 8), (REPEAT, 0), (GIVEN, 2 << 8), (REPEAT, 0)]);
-    assert_eq!((run.counts, table[1], table[9]), (Counts::default(), 0, 0));
+    assert_eq!((run.counts, table[1], table[13]), (Counts::default(), 0, 0));
 }
 
 #[test]
 fn all_256_of_both_in_one_slice() {
     let (mut table, mut shutters) = (vec![0; table::LEN], vec![0; shutters::LEN]);
-    table[..256 * 8].chunks_mut(8).for_each(|record| record[0] = 1);
+    table[..256 * 12].chunks_mut(12).for_each(|record| record[0] = 1);
     shutters.chunks_mut(20).for_each(|shutter| shutter[0] = 1);
     let on = |house| Message::Function { house, function: Function::AllLightsOn };
     let mut messages: Vec<Message> = (0..16).map(on).collect();
@@ -605,7 +607,7 @@ fn a_run_of_the_mains_route_is_receive_and_apply_one_after_the_other() {
         let differs = |before: &[u8], after: &[u8], size: usize| {
             (0..256).filter(|i| before[size * i + 1] != after[size * i + 1]).count()
         };
-        let (modules, shutters) = (differs(&before.0, &table, 8), differs(&before.1, &shutters, 20));
+        let (modules, shutters) = (differs(&before.0, &table, 12), differs(&before.1, &shutters, 20));
         assert_eq!(run.counts, Counts { modules, shutters });
         assert_eq!(lit(&table, 0), lit_counted(&table, 0));
     }

@@ -37,7 +37,7 @@ fn filled(shutters: [Shutter; 4]) -> Vec<u8> {
 fn after_for(unit: u8, shutters: [Shutter; 4], data: u8, command: u8) -> ([Shutter; 4], usize) {
     let mut table = filled(shutters);
     let mut modules = vec![0; table::LEN];
-    modules[..8].copy_from_slice(&[1, 40, 1, 1, 9, 0, 0, 0]);
+    modules[..12].copy_from_slice(&[1, 40, 1, 1, 9, 0, 0, 0, 7, 0, 0, 0]);
     modules[table::LIT] = 1;
     let before = modules.clone();
     let message = Message::Extended { house: 0, unit, data, command };

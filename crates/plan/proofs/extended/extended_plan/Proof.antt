@@ -5,8 +5,8 @@ use borrow.Author.Needs.{needs}
 use Rattle.plan.proofs.extended.extended_plan.Statement.{statement}
 use Rattle.plan.proofs.extended.extended_plan.Tie as tie
 
-if-absolute-requires : tie.Need-if-absolute-requires
-if-absolute-requires c κs = search needs
+reference-in-requires : tie.Need-reference-in-requires
+reference-in-requires c κs = search needs
 
 leave-plan-requires : tie.Need-leave-plan-requires
 leave-plan-requires c κs = search needs
@@ -22,7 +22,7 @@ step-plan-requires c κs = search needs
 
 returns : tie.Need-returns
 unfolding extendedPlan
-returns c = simp (c .before .match .keys1, c .if-absolute .ensures)
+returns c = simp (c .before .match .keys1, c .reference-in .ensures)
 
 returns-2 : tie.Need-returns-2
 unfolding extendedPlan
@@ -94,7 +94,7 @@ pub extended-plan-spec : {M : Type 1} → statement M
 extended-plan-spec =
     tie.close
     (tie.spec
-    if-absolute-requires
+    reference-in-requires
     leave-plan-requires
     execute-plan-requires
     step-plan-requires

@@ -49,17 +49,8 @@ enum-told-8 c = search needs
 enum-told-9 : tie.Need-enum-told-9
 enum-told-9 c = search needs
 
-enum-told-10 : tie.Need-enum-told-10
-enum-told-10 c = search needs
-
-enum-told-11 : tie.Need-enum-told-11
-enum-told-11 c = search needs
-
-enum-told-12 : tie.Need-enum-told-12
-enum-told-12 c = search needs
-
 returns : tie.Need-returns
-returns c = simp (c .enum-told .given .1)
+returns c = search needs
 
 returns-2 : tie.Need-returns-2
 returns-2 c = simp (c .choose2 .ensures, c .before .choose .ensures, c .before .before .before .before .act .given .1)
@@ -71,16 +62,16 @@ returns-4 : tie.Need-returns-4
 returns-4 c = let groups : keepsGroups (c .before .before .args .act) ≡ false = rw (c .enum-told2 .given .1) in simp addressed-kept
 
 returns-5 : tie.Need-returns-5
-returns-5 c = simp (c .enum-told3 .given .1)
+returns-5 c = search needs
 
 returns-6 : tie.Need-returns-6
 returns-6 c = let groups : keepsGroups (c .before .before .args .act) ≡ false = rw (c .enum-told4 .given .1) in simp addressed-kept
 
 returns-7 : tie.Need-returns-7
-returns-7 c = simp (c .enum-told5 .given .1)
+returns-7 c = search needs
 
 returns-8 : tie.Need-returns-8
-returns-8 c = simp (c .enum-told6 .given .1)
+returns-8 c = search needs
 
 returns-9 : tie.Need-returns-9
 returns-9 c = let groups : keepsGroups (c .before .before .args .act) ≡ false = rw (c .enum-told7 .given .1) in simp addressed-kept
@@ -89,16 +80,7 @@ returns-10 : tie.Need-returns-10
 returns-10 c = let groups : keepsGroups (c .before .before .args .act) ≡ false = rw (c .enum-told8 .given .1) in simp addressed-kept
 
 returns-11 : tie.Need-returns-11
-returns-11 c = simp (c .enum-told9 .given .1)
-
-returns-12 : tie.Need-returns-12
-returns-12 c = simp (c .enum-told10 .given .1)
-
-returns-13 : tie.Need-returns-13
-returns-13 c = simp (c .enum-told11 .given .1)
-
-returns-14 : tie.Need-returns-14
-returns-14 c = simp (c .enum-told12 .given .1)
+returns-11 c = search needs
 
 pub act-addressed-spec : {M : Type 1} → statement M
 act-addressed-spec =
@@ -118,9 +100,6 @@ act-addressed-spec =
     enum-told-7
     enum-told-8
     enum-told-9
-    enum-told-10
-    enum-told-11
-    enum-told-12
     returns
     returns-2
     returns-3
@@ -131,7 +110,4 @@ act-addressed-spec =
     returns-8
     returns-9
     returns-10
-    returns-11
-    returns-12
-    returns-13
-    returns-14)
+    returns-11)

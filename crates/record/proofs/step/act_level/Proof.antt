@@ -49,47 +49,14 @@ enum-told-8 c = search needs
 enum-known-act-3 : tie.Need-enum-known-act-3
 enum-known-act-3 c = search needs
 
-bit-of-requires : tie.Need-bit-of-requires
-bit-of-requires c κs = search needs
+reached-requires : tie.Need-reached-requires
+reached-requires c κs = search needs
 
-preset-of-requires : tie.Need-preset-of-requires
-preset-of-requires c κs = search needs
+asked-level-requires : tie.Need-asked-level-requires
+asked-level-requires c κs = search needs
 
 choose-requires-2 : tie.Need-choose-requires-2
 choose-requires-2 c κs = search needs
-
-enum-known-act-4 : tie.Need-enum-known-act-4
-enum-known-act-4 c = search needs
-
-bit-of-requires-2 : tie.Need-bit-of-requires-2
-bit-of-requires-2 c κs = search needs
-
-choose-requires-3 : tie.Need-choose-requires-3
-choose-requires-3 c κs = search needs
-
-enum-known-act-5 : tie.Need-enum-known-act-5
-enum-known-act-5 c = search needs
-
-bit-of-requires-3 : tie.Need-bit-of-requires-3
-bit-of-requires-3 c κs = search needs
-
-dim-requires : tie.Need-dim-requires
-dim-requires c κs = search needs
-
-choose-requires-4 : tie.Need-choose-requires-4
-choose-requires-4 c κs = search needs
-
-enum-known-act-6 : tie.Need-enum-known-act-6
-enum-known-act-6 c = search needs
-
-bit-of-requires-4 : tie.Need-bit-of-requires-4
-bit-of-requires-4 c κs = search needs
-
-brighten-requires : tie.Need-brighten-requires
-brighten-requires c κs = search needs
-
-choose-requires-5 : tie.Need-choose-requires-5
-choose-requires-5 c κs = search needs
 
 returns : tie.Need-returns
 returns c own = simp (c .enum-told .given .1)
@@ -101,13 +68,13 @@ returns-3 : tie.Need-returns-3
 returns-3 c own = simp (c .obeyed-level .ensures, c .before .before .act .given .1)
 
 returns-4 : tie.Need-returns-4
-returns-4 c own = let groups : keepsGroups (c .before .before .before .args .act) ≡ false = rw (c .enum-told3 .given .1) in simp level-kept
+returns-4 c own = let groups : keepsGroups (c .before .before .args .act) ≡ false = rw (c .enum-told3 .given .1) in simp level-kept
 
 returns-5 : tie.Need-returns-5
 returns-5 c own = simp (c .choose .ensures, c .before .level-asked .ensures, c .before .before .before .act2 .given .1)
 
 returns-6 : tie.Need-returns-6
-returns-6 c own = let groups : keepsGroups (c .before .before .before .args .act) ≡ false = rw (c .enum-told4 .given .1) in simp level-kept
+returns-6 c own = let groups : keepsGroups (c .before .before .args .act) ≡ false = rw (c .enum-told4 .given .1) in simp level-kept
 
 returns-7 : tie.Need-returns-7
 returns-7 c own = simp (c .enum-told5 .given .1)
@@ -116,33 +83,18 @@ returns-8 : tie.Need-returns-8
 returns-8 c own = simp (c .enum-told6 .given .1)
 
 returns-9 : tie.Need-returns-9
-returns-9 c own = let groups : keepsGroups (c .before .before .before .args .act) ≡ false = rw (c .enum-told7 .given .1) in simp level-kept
+returns-9 c own = let groups : keepsGroups (c .before .before .args .act) ≡ false = rw (c .enum-told7 .given .1) in simp level-kept
 
 returns-10 : tie.Need-returns-10
-returns-10 c own = let groups : keepsGroups (c .before .before .before .args .act) ≡ false = rw (c .enum-told8 .given .1) in simp level-kept
+returns-10 c own = let groups : keepsGroups (c .before .before .args .act) ≡ false = rw (c .enum-told8 .given .1) in simp level-kept
 
 returns-11 : tie.Need-returns-11
 returns-11 c own =
     simp (
       c .choose2 .ensures,
-      c .before .preset-of .ensures,
-      c .before .before .bit-of .ensures,
+      c .before .asked-level .ensures,
+      c .before .before .reached .ensures,
       c .before .before .before .before .act3 .given .1,
-    )
-
-returns-12 : tie.Need-returns-12
-returns-12 c own = simp (c .choose3 .ensures, c .before .bit-of2 .ensures, c .before .before .before .act4 .given .1)
-
-returns-13 : tie.Need-returns-13
-returns-13 c own = simp (c .choose4 .ensures, c .before .dim .ensures, c .before .before .bit-of3 .ensures, c .before .before .before .before .act5 .given .1)
-
-returns-14 : tie.Need-returns-14
-returns-14 c own =
-    simp (
-      c .choose5 .ensures,
-      c .before .brighten .ensures,
-      c .before .before .bit-of4 .ensures,
-      c .before .before .before .before .act6 .given .1,
     )
 
 pub act-level-spec : {M : Type 1} → statement M
@@ -163,20 +115,9 @@ act-level-spec =
     enum-told-7
     enum-told-8
     enum-known-act-3
-    bit-of-requires
-    preset-of-requires
+    reached-requires
+    asked-level-requires
     choose-requires-2
-    enum-known-act-4
-    bit-of-requires-2
-    choose-requires-3
-    enum-known-act-5
-    bit-of-requires-3
-    dim-requires
-    choose-requires-4
-    enum-known-act-6
-    bit-of-requires-4
-    brighten-requires
-    choose-requires-5
     returns
     returns-2
     returns-3
@@ -187,7 +128,4 @@ act-level-spec =
     returns-8
     returns-9
     returns-10
-    returns-11
-    returns-12
-    returns-13
-    returns-14)
+    returns-11)

@@ -5,7 +5,6 @@ use lib.Dec.{eqb}
 use Rattle.ground.specs.Choice.{pick}
 use Rattle.record.specs.declared.Record.{Record}
 use Rattle.record.specs.ModuleTable.{acted, stepRecord}
-use Rattle.record.specs.Parts.{groupsOf}
 use Rattle.record.proofs.RecordLaws.{part-after}
 use borrow.Author.Needs.{needs}
 use Rattle.record.proofs.step.addressed_after.Statement.{statement}

@@ -3,14 +3,14 @@ use borrow.Author.Needs.{needs}
 use Rattle.record.proofs.step.level_asked.Statement.{statement}
 use Rattle.record.proofs.step.level_asked.Tie as tie
 
-at-most-63-requires : tie.Need-at-most-63-requires
-at-most-63-requires c κs = search needs
+lower-requires : tie.Need-lower-requires
+lower-requires c κs = search needs
 
 choose-requires : tie.Need-choose-requires
 choose-requires c κs = search needs
 
 returns : tie.Need-returns
-returns c = simp (c .choose .ensures, c .before .at-most-63 .ensures)
+returns c = simp (c .choose .ensures, c .before .lower .ensures)
 
 pub level-asked-spec : {M : Type 1} → statement M
-level-asked-spec = tie.close (tie.spec at-most-63-requires choose-requires returns)
+level-asked-spec = tie.close (tie.spec lower-requires choose-requires returns)
