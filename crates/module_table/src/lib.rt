@@ -163,27 +163,19 @@ fn lit_at(t: &[u8], i: usize) -> usize
     count_of(r.level == 0)
 }
 
-// Whether each record of a house keeps the rules, and how many of its modules are above level 0.
-struct Judged {
-    ok: bool,
-    lit: usize,
-}
-
-// Judges each record of a house. Every one is tested: with no early way out the tests run side by side.
-fn judge_each(t: &[u8], house: usize) -> Judged
+// Whether each record of a house keeps the rules, by these rules one by one.
+fn judge_each(t: &[u8], house: usize) -> bool
     requires { ⌜ (length (now t) ≡ TABLE-BYTES) × (house < HOUSES) ⌝ }
-    ensures { λ r. ⌜ (r .ok ≡ eachOk modules recordOk (house * UNITS) UNITS (now (t .entry))) × (r .lit ≡ litIn (now (t .entry)) house) × (r .lit ≤ UNITS) ⌝ }
+    ensures { λ r. ⌜ r ≡ eachOk modules recordOk (house * UNITS) UNITS (now (t .entry)) ⌝ }
 {
     let first = house * UNITS;
     let mut ok = true;
-    let mut lit: usize = 0;
     let mut n = 0;
     while n < UNITS {
         ok = ok & record_ok(t, first + n);
-        lit = lit + lit_at(t, first + n);
         n += 1;
     }
-    Judged { ok: ok, lit: lit }
+    ok
 }
 
 // Whether each record of a house keeps the rules, and whether its byte says how many modules are lit. The records of a house with no module
@@ -198,11 +190,11 @@ fn units_ok(t: &[u8], house: usize) -> bool
         return own.lit == 0;
     }
     let quick = quick_each(t, house);
+    let counted = own.lit == quick.lit as u8;
     if quick.ok {
-        return own.lit == quick.lit as u8;
+        return counted;
     }
-    let each = judge_each(t, house);
-    each.ok & (own.lit == each.lit as u8)
+    judge_each(t, house) & counted
 }
 
 // Whether those of every house do.

@@ -1,5 +1,5 @@
 // A quick test of the records of a house: twelve bytes are three numbers, and a rule is tested of four bytes at once. With no branch, and
-// with numbers of 32 bits only, the records are tested side by side. A yes is proved to be right; after a no the exact test is asked.
+// with numbers of 32 bits only, the records are tested side by side. A yes is proved to be right; after a no the rules are asked one by one.
 use record::RECORD_BYTES;
 use record::UNITS;
 ghost use mathlib.Core.Path.{_≡_};
@@ -12,6 +12,9 @@ ghost use Rattle.record.specs.declared.Record.{Record};
 ghost use Rattle.record.specs.Layout.{HOUSES, UNITS, TABLE-BYTES, modules};
 ghost use Rattle.record.specs.ModuleTable.{recordOk, litIn};
 ghost use Rattle.module_table.specs.Quick.{WordOf, InWords};
+
+// Four bytes of 1.
+const ONES: u32 = 0x01010101;
 
 // The number of four bytes, the first lowest. In this shape, and over a part of four bytes, they are read at once.
 fn word_of(s: &[u8]) -> u32
@@ -38,24 +41,24 @@ fn choose(b: bool, x: u32, y: u32) -> u32
 }
 
 // Bits that are set where a record, given as three numbers, breaks a rule; 0 only for one that keeps them. In turn: bits that no field may
-// have, kind 3, an absent module that is not all zeros, a preset and a reference that their group may not have, an appliance's level and
-// presets that are not all or nothing, and a reference of 17 to 31.
-fn faults(w: u32, p: u32, s: u32) -> u32
-    ensures { λ x. ⌜ ((r : Record) → InWords r w p s → x ≡ 0 → recordOk r ≡ true) ⌝ }
+// have, kind 3, an absent module whose first four bytes are not 0 (the others are 0 then by its mask), a preset and a reference that their
+// group may not have, an appliance's level and presets that are not all or nothing, and a reference of 17 to 31.
+fn faults(fields: u32, presets: u32, references: u32) -> u32
+    ensures { λ x. ⌜ ((r : Record) → InWords r fields presets references → x ≡ 0 → recordOk r ≡ true) ⌝ }
 {
-    let kind = w % 256;
-    let level = w / 256 % 256;
+    let kind = fields % 256;
+    let level = fields / 256 % 256;
     let appliance = kind / 2 % 2;
     // The mask's bit for a group becomes the lowest bit of that group's byte.
-    let members = (w / 16777216 * 0x00204081) & 0x01010101;
-    (w & 0xF0FEC0FC)
+    let members = (fields / 0x01000000 * 0x00204081) & ONES;
+    (fields & 0xF0FEC0FC)
         | (kind & (kind / 2))
-        | choose(kind == 0, w, 0)
-        | (p & (0xFFFFFFFF - members * 63))
-        | (s & (0xFFFFFFFF - members * 31))
+        | choose(kind == 0, fields, 0)
+        | (presets & (0xFFFFFFFF - members * 63))
+        | (references & (0xFFFFFFFF - members * 31))
         | ((level ^ (level % 2 * 63)) & (appliance * 63))
-        | ((p ^ ((p & 0x01010101) * 63)) & (appliance * 0x3F3F3F3F))
-        | (((s & 0x1F1F1F1F) + 0x0F0F0F0F) & 0x20202020)
+        | ((presets ^ ((presets & ONES) * 63)) & (appliance * 0x3F3F3F3F))
+        | (((references & 0x1F1F1F1F) + 0x0F0F0F0F) & 0x20202020)
 }
 
 // Whether the quick test finds no fault, and how many modules are above level 0.
@@ -76,9 +79,9 @@ pub(crate) fn quick_each(t: &[u8], house: usize) -> Quick
     let mut n = 0;
     while n < UNITS {
         let at = (first + n) * RECORD_BYTES;
-        let w = word_at(t, at);
-        bad = bad | faults(w, word_at(t, at + 4), word_at(t, at + 8));
-        lit = lit + choose(w / 256 % 256 == 0, 0, 1);
+        let fields = word_at(t, at);
+        bad = bad | faults(fields, word_at(t, at + 4), word_at(t, at + 8));
+        lit = lit + choose(fields / 256 % 256 == 0, 0, 1);
         n += 1;
     }
     Quick {

@@ -154,7 +154,7 @@ notJoined = record { member = false; preset = 0; reference = 0 }
 unfoldable pub joined : ℕ → ℕ → ℕ → Groups → Groups
 joined g x s of = regroup (λ k. pick (eqb g k) (joinedAs x (min ABSOLUTE s)) (membership k of))
 
--- "leave the groups in the low four bits .. presets left become 0", and the references too: "35 ignores references"
+-- "leave the groups in the low four bits .. presets left become 0", whatever the references; "A non-member's reference byte is 0."
 unfoldable pub left : ℕ → Groups → Groups
 left gs of = regroup (λ k. pick (bit k gs) notJoined (membership k of))
 

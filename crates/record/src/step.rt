@@ -107,7 +107,8 @@ fn reached(group: u8, reference: u8, r: Record) -> bool
 {
     let groups = r.groups;
     let m = membership_in(group, groups);
-    m.member & ((m.reference == ABSOLUTE) | (m.reference == reference))
+    let own = m.reference;
+    m.member & ((own == ABSOLUTE) | (own == reference))
 }
 
 // The level that a module takes where its preset for the group is asked.
@@ -226,13 +227,15 @@ fn only(g: u8) -> u8
 }
 
 // The membership given where group k is among those told, a bit each, and else the membership that there was.
-fn membership_after(told: u8, m: Membership, groups: Groups, k: u8) -> Membership
+fn membership_told(told: u8, m: Membership, groups: Groups, k: u8) -> Membership
     ensures { λ r. ⌜ r ≡ pick (bit k told) m (membership k groups) ⌝ }
 {
     let old = membership_in(k, groups);
     let now = bit_of(k, told);
+    let was = old.member;
+    let is = m.member;
     Membership {
-        member: (now & m.member) | (!now & old.member),
+        member: (now & is) | (!now & was),
         preset: choose(now, m.preset, old.preset),
         reference: choose(now, m.reference, old.reference),
     }
@@ -247,7 +250,7 @@ fn regrouped(told: u8, m: Membership, groups: Groups) -> Groups
     let mut references = [0; GROUPS];
     let mut k: usize = 0;
     while k < GROUPS {
-        let own = membership_after(told, m, groups, k as u8);
+        let own = membership_told(told, m, groups, k as u8);
         mask = mask + choose(own.member, only(k as u8), 0);
         presets[k] = own.preset;
         references[k] = own.reference;

@@ -4,34 +4,40 @@
 --     reached-does, unreached-stays        one that is reached does what is asked, and another stays as it is
 --     execute-plan, step-plan              36 and 3C ask for a group command
 --     after-is                             a record of the house after an extended message that asks for an act
+--     groups-alone                         of a message that asks for groups alone, all else stays
 --     who-is-reached, what-is-joined       WhoIsReached, WhatIsJoined
 use mathlib.Core.Path.{_≡_, refl, sym, ap, subst, _∙_}
 use mathlib.Core.Bool.{Bool, true, false, _&&_, _||_, false≢true, and-eq-true-iff, and-false, or-true}
-use Prim.Native.Nat.{ℕ, _/_, _%_, _≤_, _<_}
+use Prim.Native.Nat.{ℕ, _+_, _*_, _/_, _%_, _≤_, _<_}
 use native.Mathlib.Decide.{ℕ-discrete}
 use native.Mathlib.Omega.{arith}
 use borrow.Author.Tests.{eqb-true, eq-eqb, ne-eqb, le-leb}
 use lib.Dec.{eqb, leb}
 use Rattle.ground.specs.Choice.{pick}
+use Rattle.ground.proofs.Choices.{pick-both}
 use Rattle.message.specs.Messages.{messageOk}
+use Rattle.message.specs.declared.Message.{Message}
 use Rattle.message.specs.declared.Message.the-variants.{Extended}
-use Rattle.plan.specs.Plans.{bit, levelIn, groupIn, groupsIn, referenceIn, planOf, extendedPlan, ABSOLUTE}
+use Rattle.plan.specs.Plans.{bit, levelIn, groupIn, groupsIn, referenceIn, houseOf, planOf, extendedPlan, ABSOLUTE}
 use Rattle.plan.specs.declared.Act.{Act}
 use Rattle.plan.specs.declared.Act.the-variants.{Join, JoinAt, Leave, LeaveHouse, Group}
 use Rattle.plan.specs.declared.GroupAct.{GroupAct}
-use Rattle.plan.specs.declared.Plan.the-variants.{Run}
+use Rattle.plan.specs.declared.Plan.{Plan}
+use Rattle.plan.specs.declared.Plan.the-variants.{Run, Move, Refused}
 use Rattle.plan.proofs.PlanLaws.{which-reference}
-use Rattle.record.specs.Layout.{UNITS, HOUSES, houseAt, present, membership, member, reference, withLevel}
-use Rattle.record.specs.ModuleTable.{allZeros, recordOk, reached, asked, joinedAs, stepRecord}
+use Rattle.record.specs.Layout.{UNITS, HOUSES, recordAt, houseAt, present, membership, member, reference, withLevel, withGroups}
+use Rattle.record.specs.ModuleTable.{allZeros, recordOk, reached, asked, joinedAs, acted, stepRecord}
 use Rattle.record.specs.declared.House.{House}
 use Rattle.record.specs.declared.Record.{Record}
-use Rattle.record.specs.Statements.{GroupByGroup}
-use Rattle.record.proofs.RecordLaws.{good, each-of-four, memberships}
-use Rattle.room.specs.Rooms.{Room, roomOk}
+use Rattle.record.specs.Parts.{keepsGroups}
+use Rattle.record.proofs.RecordLaws.{good, each-of-four, memberships, rest-kept}
+use Rattle.room.specs.Rooms.{Room, roomOk, roomAfter}
+use Rattle.room.proofs.ApplyLaws.{Outcome, stays, did, moved, outcome}
 use Rattle.room_laws.specs.Groups.{asks, unitBefore, unitAfter, Reaches, WhoIsReached, WhatIsJoined}
 use Rattle.room_laws.proofs.LitLaws.{kept}
 use Rattle.room_laws.proofs.ReachLaws.{step-unreached}
 use Rattle.room_laws.proofs.Press.{done}
+use Rattle.room_laws.proofs.Theorems.{record-by-record}
 
 -- a place with no module is in no group
 member-present : (g : ℕ) (r : Record) → recordOk r ≡ true → g < 4 → member g r ≡ true → present r ≡ true
@@ -149,22 +155,73 @@ module _ (h u d : ℕ) where
   unfolding extendedPlan
   leave-house-plan e = rw e
 
+-- ---- groups and nothing else
+
+-- whether what is asked keeps the groups
+abbrev planKeeps : Plan → Bool
+planKeeps (Run a) = keepsGroups a
+planKeeps (Move a) = false
+planKeeps (Refused why) = false
+
+step-groups : (a : Act) (own : House) (n : ℕ) (r : Record) → keepsGroups a ≡ false → stepRecord a own n r ≡ withGroups (stepRecord a own n r .groups) r
+unfolding stepRecord
+step-groups a own n r leaves = go (present r)
+  where
+    go : (b : Bool) → pick b (acted a own n r) r ≡ withGroups (pick b (acted a own n r) r .groups) r
+    go true = sym (rest-kept a own n r leaves)
+    go false = refl
+
+-- of a message that asks for no other act, refused or not
+groups-alone : (m : Message) (room : Room) (n : ℕ) → n < UNITS → planKeeps (planOf m) ≡ false
+    → let after = recordAt (roomAfter m room .modules) (houseOf m * UNITS + n) in
+    after ≡ withGroups (after .groups) (recordAt (room .modules) (houseOf m * UNITS + n))
+groups-alone m room n below leaves = go (outcome m room)
+  where
+    before : Record
+    before = recordAt (room .modules) (houseOf m * UNITS + n)
+
+    Alone : Record → Type 0
+    Alone after = after ≡ withGroups (after .groups) before
+
+    go : Outcome m room → Alone (recordAt (roomAfter m room .modules) (houseOf m * UNITS + n))
+    go (stays why e same) = rw same
+    go (did a r) =
+        let own = houseAt (room .modules) (houseOf m) in
+        let left : recordAt (roomAfter m room .modules) (houseOf m * UNITS + n) ≡ stepRecord a own n before =
+        record-by-record m room (rw (r .answer)) .records n below ∙ rw (r .plan) in
+        subst Alone (sym left) (step-groups a own n before (sym (ap planKeeps (r .plan)) ∙ leaves))
+    go (moved a r) = rw (r .left)
+
+module _ (h u d : ℕ) where
+  -- 30, 32 and 35 ask for none
+  asks-for-groups : (c : ℕ) → (eqb c 0x30 || eqb c 0x32 || eqb c 0x35) ≡ true → planKeeps (planOf (Extended h u d c)) ≡ false
+  unfolding extendedPlan
+  asks-for-groups c is = go (ℕ-discrete c 0x30) (ℕ-discrete c 0x32) (ℕ-discrete c 0x35)
+    where
+      go : Dec (c ≡ 0x30) → Dec (c ≡ 0x32) → Dec (c ≡ 0x35) → planKeeps (planOf (Extended h u d c)) ≡ false
+      go (yes e) _ _ = rw e
+      go (no _) (yes e) _ = rw e
+      go (no _) (no _) (yes e) =
+          rw e (pick-both (λ p. planKeeps p ≡ false) (eqb (d / 16) 0) _ _ refl (pick-both (λ p. planKeeps p ≡ false) (eqb (d / 16) 15) _ _ refl refl))
+      go (no a) (no b) (no c′) = absurd (false≢true (rw (ne-eqb _ _ a, ne-eqb _ _ b, ne-eqb _ _ c′) at is))
+
 pub what-is-joined : WhatIsJoined
-what-is-joined h u d g room ok house unit byte below here =
+what-is-joined h u d g room ok house unit byte below =
     record {
-      relative = λ set.
+      relative = λ here set.
           let named = which-reference .relative d set in
-          groups (unitAfter-is 0x30 u _ refl (join-plan h u d) (omega arith)) ∙ of-unit .joins (groupIn d) (referenceIn d) (omega (arith, named .1))
+          groups (after 0x30 u _ refl (join-plan h u d) (omega arith)) ∙ memberships own u g r here below .joins (groupIn d) (referenceIn d) (omega (arith, named .1))
           ∙ ap (λ (s : ℕ). pick (eqb (groupIn d) g) (joinedAs (r .level) s) (membership g (r .groups))) (named .0);
-      absolute = λ clear.
+      absolute = λ here clear.
           let named = which-reference .absolute d clear in
-          groups (unitAfter-is 0x30 u _ refl (join-plan h u d) (omega arith)) ∙ of-unit .joins (groupIn d) (referenceIn d) (omega (arith, named))
+          groups (after 0x30 u _ refl (join-plan h u d) (omega arith)) ∙ memberships own u g r here below .joins (groupIn d) (referenceIn d) (omega (arith, named))
           ∙ ap (λ (s : ℕ). pick (eqb (groupIn d) g) (joinedAs (r .level) s) (membership g (r .groups))) named;
-      with-preset = groups (unitAfter-is 0x32 u _ refl (join-at-plan h u d) (omega arith)) ∙ of-unit .joins-at (groupIn d) (levelIn d);
-      leaves = λ e. groups (unitAfter-is 0x35 u _ refl (leave-plan h u d e) (omega arith)) ∙ of-unit .leaves (groupsIn d);
+      with-preset = λ here.
+          groups (after 0x32 u _ refl (join-at-plan h u d) (omega arith)) ∙ memberships own u g r here below .joins-at (groupIn d) (levelIn d);
+      leaves = λ here e. groups (after 0x35 u _ refl (leave-plan h u d e) (omega arith)) ∙ memberships own u g r here below .leaves (groupsIn d);
       all-leave = λ e n low there.
-          groups (unitAfter-is 0x35 n _ refl (leave-house-plan h u d e) low)
-          ∙ memberships own u g (unitBefore room h n) there below .leaves-house (groupsIn d) n;
+          groups (after 0x35 n _ refl (leave-house-plan h u d e) low) ∙ memberships own u g (unitBefore room h n) there below .leaves-house (groupsIn d) n;
+      groups-only = λ c n is low. groups-alone (Extended h u d c) room n low (asks-for-groups h u d c is);
     }
   where
     own : House
@@ -173,12 +230,9 @@ what-is-joined h u d g room ok house unit byte below here =
     r : Record
     r = unitBefore room h u
 
-    of-unit : GroupByGroup own u g r
-    of-unit = memberships own u g r here below
-
-    unitAfter-is : (c n : ℕ) (a : Act) → leb c 255 ≡ true → planOf (Extended h u d c) ≡ Run a → n < UNITS
+    after : (c n : ℕ) (a : Act) → leb c 255 ≡ true → planOf (Extended h u d c) ≡ Run a → n < UNITS
         → unitAfter room h u d c n ≡ stepRecord a own n (unitBefore room h n)
-    unitAfter-is = after-is h u d room ok house unit byte
+    after = after-is h u d room ok house unit byte
 
     -- what follows for the group
     groups : {s q : Record} → s ≡ q → membership g (s .groups) ≡ membership g (q .groups)

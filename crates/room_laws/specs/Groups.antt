@@ -9,7 +9,7 @@ use Rattle.message.specs.declared.Message.the-variants.{Extended}
 use Rattle.plan.specs.Plans.{bit, levelIn, groupIn, groupsIn, ABSOLUTE}
 use Rattle.plan.specs.declared.GroupAct.{GroupAct}
 use Rattle.plan.specs.declared.GroupAct.the-variants.{Execute, PutOff, StepDim, StepBright}
-use Rattle.record.specs.Layout.{GROUPS, UNITS, HOUSES, recordAt, present, membership, member, reference, withLevel}
+use Rattle.record.specs.Layout.{GROUPS, UNITS, HOUSES, recordAt, present, membership, member, reference, withLevel, withGroups}
 use Rattle.record.specs.ModuleTable.{levelFor, asked, joinedAs, notJoined}
 use Rattle.record.specs.declared.Record.{Record}
 use Rattle.room.specs.Rooms.{Room, roomOk, roomAfter}
@@ -29,7 +29,7 @@ unitBefore room h n = recordAt (room .modules) (h * UNITS + n)
 abbrev pub unitAfter : Room → ℕ → ℕ → ℕ → ℕ → ℕ → Record
 unitAfter room h u d c n = recordAt (roomAfter (Extended h u d c) room .modules) (h * UNITS + n)
 
--- a record of the house before the command and after it; G is the group that the data names
+-- a record of the house before the command and after it, by the group that the data names
 pub record Reaches (c d : ℕ) (before after : Record) : Type 0 where
   -- a relative one reaches "members with that reference"
   pub with-reference : bit 5 d ≡ true → member (groupIn d) before ≡ true → reference (groupIn d) before ≡ d % 16
@@ -49,28 +49,30 @@ WhoIsReached =
     (h u d c n : ℕ) (room : Room) → roomOk room ≡ true → h < HOUSES → u ≤ 15 → d ≤ 255 → groupCommand c ≡ true → n < UNITS
     → Reaches c d (unitBefore room h n) (unitAfter room h u d c n)
 
--- what 30, 32 and 35 make of a unit in group g, for house h with unit u named: the group that the data names is joined, whatever the unit was in it
--- before, and every other group stays
+-- what 30, 32 and 35 make of a unit that is there in group g, for house h with unit u named: 30 and 32 join the group that the data names, whatever the
+-- unit was in it before, 35 leaves those in its low four bits, and every other group stays
 pub record Joins (h u d g : ℕ) (room : Room) : Type 0 where
   -- "Command 30 with bit 5 set joins G relative to the low four bits", at the current level
-  pub relative : bit 5 d ≡ true
+  pub relative : present (unitBefore room h u) ≡ true → bit 5 d ≡ true
       → membership g (unitAfter room h u d 0x30 u .groups)
       ≡ pick (eqb (groupIn d) g) (joinedAs (unitBefore room h u .level) (d % 16)) (membership g (unitBefore room h u .groups))
   -- and with bit 5 clear absolute
-  pub absolute : bit 5 d ≡ false
+  pub absolute : present (unitBefore room h u) ≡ true → bit 5 d ≡ false
       → membership g (unitAfter room h u d 0x30 u .groups)
       ≡ pick (eqb (groupIn d) g) (joinedAs (unitBefore room h u .level) ABSOLUTE) (membership g (unitBefore room h u .groups))
   -- "32 joins absolute", with preset B
-  pub with-preset : membership g (unitAfter room h u d 0x32 u .groups)
+  pub with-preset : present (unitBefore room h u) ≡ true
+      → membership g (unitAfter room h u d 0x32 u .groups)
       ≡ pick (eqb (groupIn d) g) (joinedAs (levelFor (levelIn d) (unitBefore room h u)) ABSOLUTE) (membership g (unitBefore room h u .groups))
   -- "35: leave the groups in the low four bits; top four 0 for the unit", whatever the references
-  pub leaves : d / 16 ≡ 0
+  pub leaves : present (unitBefore room h u) ≡ true → d / 16 ≡ 0
       → membership g (unitAfter room h u d 0x35 u .groups) ≡ pick (bit g (groupsIn d)) notJoined (membership g (unitBefore room h u .groups))
-  -- "15 for the house": every unit that is there
+  -- "15 for the house": every unit, whether or not the one that is named is there
   pub all-leave : d / 16 ≡ 15 → (n : ℕ) → n < UNITS → present (unitBefore room h n) ≡ true
       → membership g (unitAfter room h u d 0x35 n .groups) ≡ pick (bit g (groupsIn d)) notJoined (membership g (unitBefore room h n .groups))
+  -- and nothing else of any record of the house
+  pub groups-only : (c n : ℕ) → (eqb c 0x30 || eqb c 0x32 || eqb c 0x35) ≡ true → n < UNITS
+      → unitAfter room h u d c n ≡ withGroups (unitAfter room h u d c n .groups) (unitBefore room h n)
 
 abbrev pub WhatIsJoined : Type 0
-WhatIsJoined =
-    (h u d g : ℕ) (room : Room) → roomOk room ≡ true → h < HOUSES → u ≤ 15 → d ≤ 255 → g < GROUPS → present (unitBefore room h u) ≡ true
-    → Joins h u d g room
+WhatIsJoined = (h u d g : ℕ) (room : Room) → roomOk room ≡ true → h < HOUSES → u ≤ 15 → d ≤ 255 → g < GROUPS → Joins h u d g room

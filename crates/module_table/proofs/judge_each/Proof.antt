@@ -1,23 +1,21 @@
--- `judge_each` meets its contract. The loop's invariant: so far the test and the number are those of the records passed.
+-- `judge_each` meets its contract. The loop's invariant: so far the test is that of the records passed.
 use mathlib.Core.Path.{_≡_, refl, ap, _∙_}
 use mathlib.Core.Bool.{Bool, _&&_}
 use mathlib.Core.List.{List}
 use Prim.Native.Nat.{ℕ, _+_, _≤_, _-_, _*_}
 use native.Mathlib.Omega.{arith}
 use native.Mathlib.Numerals.{add-one}
-use Rattle.ground.specs.Records.{allBelow, sumBelow, eachOk}
+use Rattle.ground.specs.Records.{allBelow, eachOk}
 use Rattle.record.specs.Layout.{UNITS, recordAt, modules}
-use Rattle.record.specs.ModuleTable.{recordOk, litTo}
-use Rattle.module_table.proofs.TableLaws.{lit-next}
+use Rattle.record.specs.ModuleTable.{recordOk}
 use Rattle.module_table.proofs.judge_each.Statement.{statement}
 use Rattle.module_table.proofs.judge_each.Tie as tie
 
 abbrev Inv-loop : tie.InvT-loop
-Inv-loop t house first ok₀ lit₀ n₀ ok lit n =
-    (n ≤ UNITS) × (lit ≤ n) × (ok ≡ eachOk modules recordOk (house * UNITS) n t) × (lit ≡ litTo t house n)
+Inv-loop t house first ok₀ n₀ ok n = (n ≤ UNITS) × (ok ≡ eachOk modules recordOk (house * UNITS) n t)
 
 abbrev μ-loop : tie.MeasureT-loop
-μ-loop t house first ok₀ lit₀ n₀ ok lit n = UNITS - n
+μ-loop t house first ok₀ n₀ ok n = UNITS - n
 
 -- one record more
 passed : (h : ℕ) (t : List ℕ) (n : ℕ) (ok more : Bool) → ok ≡ eachOk modules recordOk (h * UNITS) n t → more ≡ recordOk (recordAt t (h * UNITS + n))
@@ -29,23 +27,14 @@ mul-first : tie.Need-mul-first Inv-loop μ-loop
 mul-first c = omega arith
 
 loop-holds : tie.Need-loop-holds Inv-loop μ-loop
-unfolding allBelow sumBelow
-loop-holds c = (omega arith, omega arith, refl, refl)
+unfolding allBelow
+loop-holds c = (omega arith, refl)
 
 add-record-ok : tie.Need-add-record-ok Inv-loop μ-loop
 add-record-ok c = omega arith
 
 record-ok-requires : tie.Need-record-ok-requires Inv-loop μ-loop
 record-ok-requires c κs = (c .before .before .before .pre .0, omega arith)
-
-add-lit-at : tie.Need-add-lit-at Inv-loop μ-loop
-add-lit-at c = omega arith
-
-lit-at-requires : tie.Need-lit-at-requires Inv-loop μ-loop
-lit-at-requires c κs = (c .before .before .before .before .pre .0, omega arith)
-
-add-lit : tie.Need-add-lit Inv-loop μ-loop
-add-lit c = omega (arith, c .lit-at .ensures .1, c .before .before .before .loop .inv .1)
 
 add-n : tie.Need-add-n Inv-loop μ-loop
 add-n c = omega arith
@@ -55,38 +44,15 @@ loop-less c = omega arith
 
 loop-again : tie.Need-loop-again Inv-loop μ-loop
 loop-again c =
-    let loop = c .before .before .before .loop in
-    let start = c .before .before .before .before .before in (
-      omega arith,
-      omega (arith, c .lit-at .ensures .1, loop .inv .1),
-      passed (start .args .house) (start .args .t .now) _ _ _ (loop .inv .2) (c .before .record-ok .ensures),
-      lit-next (start .args .t .now) (start .args .house) _ _ _ (loop .inv .3) (c .lit-at .ensures .0),
-    )
+    let start = c .before .before .before .before in
+    (omega arith, passed (start .args .house) (start .args .t .now) _ _ _ (c .before .before .loop .inv .1) (c .record-ok .ensures))
 
 returns : tie.Need-returns Inv-loop μ-loop
 returns c =
     let args = c .before .before .before .args in
-    let loop = c .before .loop in
-    let end : loop .n ≡ UNITS = omega arith in (
-      loop .inv .2 ∙ ap (λ (n : ℕ). eachOk modules recordOk (args .house * UNITS) n (args .t .now)) end,
-      loop .inv .3 ∙ ap (λ (n : ℕ). litTo (args .t .now) (args .house) n) end,
-      omega (arith, loop .inv .1),
-    )
+    let end : c .before .loop .n ≡ UNITS = omega arith in
+    c .before .loop .inv .1 ∙ ap (λ (n : ℕ). eachOk modules recordOk (args .house * UNITS) n (args .t .now)) end
 
 pub judge-each-spec : {M : Type 1} → statement M
 judge-each-spec =
-    tie.close
-    (tie.spec
-    Inv-loop
-    μ-loop
-    mul-first
-    loop-holds
-    add-record-ok
-    record-ok-requires
-    add-lit-at
-    lit-at-requires
-    add-lit
-    add-n
-    loop-less
-    loop-again
-    returns)
+    tie.close (tie.spec Inv-loop μ-loop mul-first loop-holds add-record-ok record-ok-requires add-n loop-less loop-again returns)

@@ -52,26 +52,23 @@ returns c =
 quick-each-requires : tie.Need-quick-each-requires
 quick-each-requires c κs = search needs
 
-cast-result : tie.Need-cast-result
-cast-result c = search needs
+cast-counted : tie.Need-cast-counted
+cast-counted c = search needs
 
 returns-2 : tie.Need-returns-2
 unfolding houseAt
 returns-2 c =
     let quick = c .before .before .before .quick-each .ensures in
-    rw (quick .0 (c .before .before .if2 .taken), quick .1, c .before .before .before .before .before .before .before .house-at .ensures)
+    rw (quick .0 (c .if2 .taken), quick .1, c .before .before .before .before .before .before .before .house-at .ensures)
 
 judge-each-requires : tie.Need-judge-each-requires
 judge-each-requires c κs = search needs
 
-cast-result-2 : tie.Need-cast-result-2
-cast-result-2 c = search needs
-
 returns-3 : tie.Need-returns-3
 unfolding houseAt
 returns-3 c =
-    let judged = c .before .before .before .judge-each .ensures in
-    rw (judged .0, judged .1, c .before .before .before .before .before .before .before .before .before .house-at .ensures)
+    let quick = c .before .before .before .before .quick-each .ensures in
+    rw (c .judge-each .ensures, quick .1, c .before .before .before .before .before .before .before .before .house-at .ensures)
 
 pub units-ok-spec : {M : Type 1} → statement M
 units-ok-spec =
@@ -86,8 +83,7 @@ units-ok-spec =
     zeros-requires
     returns
     quick-each-requires
-    cast-result
+    cast-counted
     returns-2
     judge-each-requires
-    cast-result-2
     returns-3)

@@ -14,16 +14,16 @@ choose-requires : tie.Need-choose-requires
 choose-requires c κs = search needs
 
 mul-result : tie.Need-mul-result
-mul-result c = omega (arith, and-le-r (c .before .args .w / 16777216 * 2113665) 16843009)
+mul-result c = omega (arith, and-le-r (c .before .args .fields / 16777216 * 2113665) 16843009)
 
 sub-result : tie.Need-sub-result
-sub-result c = omega (arith, and-le-r (c .before .args .w / 16777216 * 2113665) 16843009)
+sub-result c = omega (arith, and-le-r (c .before .args .fields / 16777216 * 2113665) 16843009)
 
 mul-result-2 : tie.Need-mul-result-2
-mul-result-2 c = omega (arith, and-le-r (c .before .args .w / 16777216 * 2113665) 16843009)
+mul-result-2 c = omega (arith, and-le-r (c .before .args .fields / 16777216 * 2113665) 16843009)
 
 sub-result-2 : tie.Need-sub-result-2
-sub-result-2 c = omega (arith, and-le-r (c .before .args .w / 16777216 * 2113665) 16843009)
+sub-result-2 c = omega (arith, and-le-r (c .before .args .fields / 16777216 * 2113665) 16843009)
 
 mul-result-3 : tie.Need-mul-result-3
 mul-result-3 c = search needs
@@ -32,16 +32,16 @@ mul-result-4 : tie.Need-mul-result-4
 mul-result-4 c = search needs
 
 mul-result-5 : tie.Need-mul-result-5
-mul-result-5 c = omega (arith, and-le-r (c .before .args .p) 16843009)
+mul-result-5 c = omega (arith, and-le-r (c .before .args .presets) 16843009)
 
 mul-result-6 : tie.Need-mul-result-6
 mul-result-6 c = search needs
 
 add-result : tie.Need-add-result
-add-result c = omega (arith, and-le-r (c .before .args .s) 522133279)
+add-result c = omega (arith, and-le-r (c .before .args .references) 522133279)
 
 returns : tie.Need-returns
-returns c r words none = sound r (c .before .args .w) (c .before .args .p) (c .before .args .s) (c .choose .result) words (c .choose .ensures) none
+returns c r words none = sound r (c .before .args .fields) (c .before .args .presets) (c .before .args .references) (c .choose .result) words (c .choose .ensures) none
 
 pub faults-spec : {M : Type 1} → statement M
 faults-spec =

@@ -7,7 +7,7 @@ membership-in-requires : tie.Need-membership-in-requires
 membership-in-requires c κs = search needs
 
 returns : tie.Need-returns
-returns c = rw (c .before .before .before .membership-in .ensures)
+returns c = rw (c .before .membership-in .ensures)
 
 pub reached-spec : {M : Type 1} → statement M
 reached-spec = tie.close (tie.spec membership-in-requires returns)

@@ -49,11 +49,11 @@ loop-holds : tie.Need-loop-holds Inv-loop μ-loop
 unfolding sumBelow filled
 loop-holds c = (omega arith, omega arith, refl, refl, refl)
 
-cast-membership-after : tie.Need-cast-membership-after Inv-loop μ-loop
-cast-membership-after c = omega arith
+cast-membership-told : tie.Need-cast-membership-told Inv-loop μ-loop
+cast-membership-told c = omega arith
 
-membership-after-requires : tie.Need-membership-after-requires Inv-loop μ-loop
-membership-after-requires c κs = tt
+membership-told-requires : tie.Need-membership-told-requires Inv-loop μ-loop
+membership-told-requires c κs = tt
 
 cast-only : tie.Need-cast-only Inv-loop μ-loop
 cast-only c = omega arith
@@ -66,7 +66,7 @@ choose-requires c κs = tt
 
 add-mask : tie.Need-add-mask Inv-loop μ-loop
 add-mask c =
-    let bit′ = small (c .before .before .membership-after .result .member) _ _ (c .before .only .ensures .1) (c .choose .ensures) in
+    let bit′ = small (c .before .before .membership-told .result .member) _ _ (c .before .only .ensures .1) (c .choose .ensures) in
     omega (arith, bit′, c .before .before .before .before .loop .inv .1)
 
 array-write-presets : tie.Need-array-write-presets Inv-loop μ-loop
@@ -86,8 +86,8 @@ loop-again c =
     let loop = c .before .before .before .before .loop in
     let a = c .before .before .before .before .before .args in
     let f : ℕ → Membership = told′ (a .told) (a .m) (a .groups) in
-    let own = c .before .before .membership-after .ensures in
-    let bit′ = small (c .before .before .membership-after .result .member) _ _ (c .before .only .ensures .1) (c .choose .ensures) in (
+    let own = c .before .before .membership-told .ensures in
+    let bit′ = small (c .before .before .membership-told .result .member) _ _ (c .before .only .ensures .1) (c .choose .ensures) in (
       omega arith,
       omega (arith, bit′, loop .inv .1),
       mask-next f (loop .k) _ _ _ _ (c .before .before .before .loop-test .taken) own (c .before .only .ensures .0) (c .choose .ensures) (loop .inv .2),
@@ -114,8 +114,8 @@ regrouped-spec =
     Inv-loop
     μ-loop
     loop-holds
-    cast-membership-after
-    membership-after-requires
+    cast-membership-told
+    membership-told-requires
     cast-only
     only-requires
     choose-requires

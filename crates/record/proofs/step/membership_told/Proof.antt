@@ -1,12 +1,12 @@
--- `step::membership_after` meets its contract: each part is chosen by the bit.
+-- `step::membership_told` meets its contract: each part is chosen by the bit.
 use mathlib.Core.Path.{_≡_, ap, _∙_}
 use mathlib.Core.Bool.{Bool, true, false, not, _&&_, _||_, or-false}
 use Prim.Native.Nat.{ℕ}
 use Rattle.ground.specs.Choice.{pick}
 use Rattle.record.specs.declared.Membership.{Membership}
 use borrow.Author.Needs.{needs}
-use Rattle.record.proofs.step.membership_after.Statement.{statement}
-use Rattle.record.proofs.step.membership_after.Tie as tie
+use Rattle.record.proofs.step.membership_told.Statement.{statement}
+use Rattle.record.proofs.step.membership_told.Tie as tie
 
 membership-in-requires : tie.Need-membership-in-requires
 membership-in-requires c κs = search needs
@@ -29,9 +29,9 @@ parts false m old x y preset reference = rw (preset, reference)
 
 returns : tie.Need-returns
 returns c =
-    let a = c .before .before .before .before .before .before .args in
-    parts (c .before .before .before .before .bit-of .result) (a .m) _ _ _ (c .before .choose .ensures) (c .choose2 .ensures)
-    ∙ rw (c .before .before .before .before .bit-of .ensures, c .before .before .before .before .before .membership-in .ensures)
+    let a = c .before .before .before .before .args in
+    parts (c .before .before .bit-of .result) (a .m) _ _ _ (c .before .choose .ensures) (c .choose2 .ensures)
+    ∙ rw (c .before .before .bit-of .ensures, c .before .before .before .membership-in .ensures)
 
-pub membership-after-spec : {M : Type 1} → statement M
-membership-after-spec = tie.close (tie.spec membership-in-requires bit-of-requires choose-requires choose-requires-2 returns)
+pub membership-told-spec : {M : Type 1} → statement M
+membership-told-spec = tie.close (tie.spec membership-in-requires bit-of-requires choose-requires choose-requires-2 returns)
