@@ -210,11 +210,13 @@ what-is-joined h u d g room ok house unit byte below =
     record {
       relative = λ here set.
           let named = which-reference .relative d set in
-          groups (after 0x30 u _ refl (join-plan h u d) (omega arith)) ∙ memberships own u g r here below .joins (groupIn d) (referenceIn d) (omega (arith, named .1))
+          groups (after 0x30 u _ refl (join-plan h u d) (omega arith))
+          ∙ memberships own u g r here below .joins (groupIn d) (referenceIn d) (omega (arith, named .1))
           ∙ ap (λ (s : ℕ). pick (eqb (groupIn d) g) (joinedAs (r .level) s) (membership g (r .groups))) (named .0);
       absolute = λ here clear.
           let named = which-reference .absolute d clear in
-          groups (after 0x30 u _ refl (join-plan h u d) (omega arith)) ∙ memberships own u g r here below .joins (groupIn d) (referenceIn d) (omega (arith, named))
+          groups (after 0x30 u _ refl (join-plan h u d) (omega arith))
+          ∙ memberships own u g r here below .joins (groupIn d) (referenceIn d) (omega (arith, named))
           ∙ ap (λ (s : ℕ). pick (eqb (groupIn d) g) (joinedAs (r .level) s) (membership g (r .groups))) named;
       with-preset = λ here.
           groups (after 0x32 u _ refl (join-at-plan h u d) (omega arith)) ∙ memberships own u g r here below .joins-at (groupIn d) (levelIn d);

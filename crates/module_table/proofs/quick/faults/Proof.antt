@@ -41,7 +41,9 @@ add-result : tie.Need-add-result
 add-result c = omega (arith, and-le-r (c .before .args .references) 522133279)
 
 returns : tie.Need-returns
-returns c r words none = sound r (c .before .args .fields) (c .before .args .presets) (c .before .args .references) (c .choose .result) words (c .choose .ensures) none
+returns c r words none =
+    let a = c .before .args in
+    sound r (a .fields) (a .presets) (a .references) (c .choose .result) words (c .choose .ensures) none
 
 pub faults-spec : {M : Type 1} → statement M
 faults-spec =
