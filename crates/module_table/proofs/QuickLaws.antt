@@ -7,7 +7,7 @@
 use mathlib.Core.Path.{_≡_, refl, sym, ap, ap₂, _∙_}
 use mathlib.Core.Bool.{Bool, true, false, not, _&&_, _||_, and-eq-true-iff, false≢true}
 use mathlib.Core.List.{List}
-use Prim.Native.Nat.{ℕ, _+_, _-_, _*_, _/_, _%_, _≤_, _<_}
+use Prim.Native.Nat.{ℕ, _+_, _-_, _*_, _/_, _%_, _^_, _≤_, _<_}
 use native.Mathlib.Nat.{add-zero}
 use native.Mathlib.Omega.{arith}
 use native.Mathlib.Numerals.{add-one}
@@ -40,23 +40,24 @@ or-none a b e =
 nested : (a b c d : ℕ) → word a b c d ≡ ((d * 256 + c) * 256 + b) * 256 + a
 nested a b c d = omega arith
 
+-- an operation that goes block by block goes byte by byte
+module _ (op : ℕ → ℕ → ℕ) (block : (k a b r s : ℕ) → r < 2 ^ k → s < 2 ^ k → op (a * 2 ^ k + r) (b * 2 ^ k + s) ≡ op a b * 2 ^ k + op r s) where
+  by-bytes : (a b c d e f g h : ℕ) → a < 256 → b < 256 → c < 256 → e < 256 → f < 256 → g < 256
+      → op (word a b c d) (word e f g h) ≡ word (op a e) (op b f) (op c g) (op d h)
+  by-bytes a b c d e f g h ha hb hc he hf hg =
+      ap₂ op (nested a b c d) (nested e f g h)
+      ∙ block 8 ((d * 256 + c) * 256 + b) ((h * 256 + g) * 256 + f) a e ha he
+      ∙ ap (λ (x : ℕ). x * 256 + op a e)
+      (block 8 (d * 256 + c) (h * 256 + g) b f hb hf ∙ ap (λ (x : ℕ). x * 256 + op b f) (block 8 d h c g hc hg))
+      ∙ sym (nested (op a e) (op b f) (op c g) (op d h))
+
 and-word : (a b c d e f g h : ℕ) → a < 256 → b < 256 → c < 256 → e < 256 → f < 256 → g < 256
     → bitAnd (word a b c d) (word e f g h) ≡ word (bitAnd a e) (bitAnd b f) (bitAnd c g) (bitAnd d h)
-and-word a b c d e f g h ha hb hc he hf hg =
-    ap₂ bitAnd (nested a b c d) (nested e f g h)
-    ∙ and-block 8 ((d * 256 + c) * 256 + b) ((h * 256 + g) * 256 + f) a e ha he
-    ∙ ap (λ (x : ℕ). x * 256 + bitAnd a e)
-    (and-block 8 (d * 256 + c) (h * 256 + g) b f hb hf ∙ ap (λ (x : ℕ). x * 256 + bitAnd b f) (and-block 8 d h c g hc hg))
-    ∙ sym (nested (bitAnd a e) (bitAnd b f) (bitAnd c g) (bitAnd d h))
+and-word = by-bytes bitAnd and-block
 
 xor-word : (a b c d e f g h : ℕ) → a < 256 → b < 256 → c < 256 → e < 256 → f < 256 → g < 256
     → bitXor (word a b c d) (word e f g h) ≡ word (bitXor a e) (bitXor b f) (bitXor c g) (bitXor d h)
-xor-word a b c d e f g h ha hb hc he hf hg =
-    ap₂ bitXor (nested a b c d) (nested e f g h)
-    ∙ xor-block 8 ((d * 256 + c) * 256 + b) ((h * 256 + g) * 256 + f) a e ha he
-    ∙ ap (λ (x : ℕ). x * 256 + bitXor a e)
-    (xor-block 8 (d * 256 + c) (h * 256 + g) b f hb hf ∙ ap (λ (x : ℕ). x * 256 + bitXor b f) (xor-block 8 d h c g hc hg))
-    ∙ sym (nested (bitXor a e) (bitXor b f) (bitXor c g) (bitXor d h))
+xor-word = by-bytes bitXor xor-block
 
 word-none : (a b c d : ℕ) → word a b c d ≡ 0 → (a ≡ 0) × (b ≡ 0) × (c ≡ 0) × (d ≡ 0)
 word-none a b c d e = (omega arith, omega arith, omega arith, omega arith)
@@ -109,19 +110,13 @@ kind-tested : allBelow 256 kindTest ≡ true
 unfolding allBelow
 kind-tested = refl
 
-abbrev markTest : ℕ → Bool
-markTest x = gives (none (bitAnd x 254)) (leb x 1)
+-- a number of at most j bits
+abbrev narrowTest : ℕ → ℕ → Bool
+narrowTest j x = gives (none (bitAnd x (256 - 2 ^ j))) (leb x (2 ^ j - 1))
 
-mark-tested : allBelow 256 markTest ≡ true
+narrow-tested : allBelow 8 (λ j. allBelow 256 (narrowTest j)) ≡ true
 unfolding allBelow
-mark-tested = refl
-
-abbrev maskTest : ℕ → Bool
-maskTest x = gives (none (bitAnd x 240)) (leb x 15)
-
-mask-tested : allBelow 256 maskTest ≡ true
-unfolding allBelow
-mask-tested = refl
+narrow-tested = refl
 
 -- a level, of a module of a kind that there is
 abbrev levelTest : ℕ → ℕ → Bool
@@ -148,10 +143,10 @@ unfolding allBelow
 reference-tested = refl
 
 -- the mask's bits, one in each byte
-abbrev maskTest′ : ℕ → Bool
-maskTest′ m = eqb (bitAnd (m * 2113665) 16843009) (word (one (bit 0 m)) (one (bit 1 m)) (one (bit 2 m)) (one (bit 3 m)))
+abbrev membersTest : ℕ → Bool
+membersTest m = eqb (bitAnd (m * 2113665) 16843009) (word (one (bit 0 m)) (one (bit 1 m)) (one (bit 2 m)) (one (bit 3 m)))
 
-members-tested : allBelow 16 maskTest′ ≡ true
+members-tested : allBelow 16 membersTest ≡ true
 unfolding allBelow
 members-tested = refl
 
@@ -162,11 +157,11 @@ two a b t e x y = given (none a && none b) t e (both (eq-eqb a 0 x) (eq-eqb b 0 
 kind-fits : (k : ℕ) → k < 256 → bitAnd k 252 ≡ 0 → bitAnd k (k / 2) ≡ 0 → leb k 2 ≡ true
 kind-fits k h x y = two (bitAnd k 252) (bitAnd k (k / 2)) (leb k 2) (below-at kindTest 256 kind-tested k h) x y
 
-mark-fits : (x : ℕ) → x < 256 → bitAnd x 254 ≡ 0 → leb x 1 ≡ true
-mark-fits x h e = given (none (bitAnd x 254)) (leb x 1) (below-at markTest 256 mark-tested x h) (eq-eqb (bitAnd x 254) 0 e)
-
-mask-fits : (x : ℕ) → x < 256 → bitAnd x 240 ≡ 0 → leb x 15 ≡ true
-mask-fits x h e = given (none (bitAnd x 240)) (leb x 15) (below-at maskTest 256 mask-tested x h) (eq-eqb (bitAnd x 240) 0 e)
+narrow-fits : (j x : ℕ) → j < 8 → x < 256 → bitAnd x (256 - 2 ^ j) ≡ 0 → leb x (2 ^ j - 1) ≡ true
+narrow-fits j x hj hx e =
+    given (none (bitAnd x (256 - 2 ^ j))) (leb x (2 ^ j - 1))
+    (below-at (narrowTest j) 256 (below-at (λ i. allBelow 256 (narrowTest i)) 8 narrow-tested j hj) x hx)
+    (eq-eqb (bitAnd x (256 - 2 ^ j)) 0 e)
 
 level-fits : (k x : ℕ) → k < 3 → x < 256 → bitAnd x 192 ≡ 0 → bitAnd (bitXor x (x % 2 * 63)) (k / 2 % 2 * 63) ≡ 0 → levelOk k x ≡ true
 level-fits k x hk hx e f =
@@ -192,7 +187,7 @@ reference-fits x b hx e f =
     (either (λ c. referenceTest c x) b (below-at (λ y. referenceTest true y && referenceTest false y) 256 reference-tested x hx)) e f
 
 members-are : (m : ℕ) → m < 16 → bitAnd (m * 2113665) 16843009 ≡ word (one (bit 0 m)) (one (bit 1 m)) (one (bit 2 m)) (one (bit 3 m))
-members-are m h = eqb-true _ _ (below-at maskTest′ 16 members-tested m h)
+members-are m h = eqb-true _ _ (below-at membersTest 16 members-tested m h)
 
 -- ---- what is asked of four at once
 
@@ -204,7 +199,7 @@ fields-sound k l a m hk hl ha hm e three all-or-none =
     (sym (and-word k l a m 252 192 254 240 hk hl ha (omega arith) (omega arith) (omega arith)) ∙ e) in
     let kind = kind-fits k hk (each .0) three in
     let low : k ≤ 2 = leb-true k 2 kind in
-    (kind, level-fits k l (omega arith) hl (each .1) all-or-none, mark-fits a ha (each .2), mask-fits m hm (each .3))
+    (kind, level-fits k l (omega arith) hl (each .1) all-or-none, narrow-fits 1 a (omega arith) ha (each .2), narrow-fits 4 m (omega arith) hm (each .3))
 
 -- the bytes of what is left of all ones
 left-of : (n : ℕ) (b c d e : Bool) → n ≤ 255
