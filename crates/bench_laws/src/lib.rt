@@ -1,1 +1,3 @@
 // Theorems only: what a bench of stations owes its messages. specs/ has the statements, proofs/ their proofs.
+
+#![tactic(auto)]

@@ -1,4 +1,7 @@
 // A run of the bench over lent bytes: stations loaded from messages and draws, then one call for each byte of the line.
+
+#![tactic(auto)]
+
 ghost use Rattle.std.specs.Prelude.{◌≡◌, ◌+◌, ◌*◌, ◌/◌, ◌≤◌, length, take, drop, replicate};
 ghost use mathlib.Core.List.{◌++◌, flat_map};
 ghost use Rattle.ground.specs.Choice.{pick};
@@ -18,7 +21,7 @@ use station::{LoadAnswer, Loading, Station, empty, load};
 use wire::{MessageRead, message_from};
 
 // What loading all stations answers, and the slots with them.
-#[derive(Drop)]
+#[derive(Clone, Copy)]
 pub(crate) struct Loads {
     answer: LoadAnswer,
     slots: [Station; 16],

@@ -1,5 +1,8 @@
 // Shows bursts on standard output: for each message and each length of buffer the number and count that the writer gives, then the
 // whole buffer, in which every byte was a dot before.
+
+#![tactic(auto)]
+
 use ground::{CountAnswer, refusal_number};
 use message::{Function, Message};
 

@@ -1,12 +1,15 @@
 // What every routine shares: why it refuses, the number that is given back for it, an answer that counts, the count of one record, and whether bytes are
 // all zeros.
+
+#![tactic(auto)]
+
 ghost use Rattle.std.specs.Prelude.{◌≡◌, ◌≤◌};
 ghost use Rattle.ground.specs.Choice.{pick};
 ghost use Rattle.ground.specs.Records.{zeros};
 ghost use Rattle.ground.specs.Refusals.{refusal_number};
 
 // Why a routine refuses, in the order of the numbers.
-#[derive(Drop)]
+#[derive(Clone, Copy)]
 pub enum Refusal {
     // The module table's length.
     Table,
@@ -46,7 +49,7 @@ pub enum Refusal {
 }
 
 // What a routine answers that counts.
-#[derive(Drop)]
+#[derive(Clone, Copy)]
 pub enum CountAnswer {
     Done(usize),
     Refused(Refusal),

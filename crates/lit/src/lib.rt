@@ -1,4 +1,7 @@
 // How many modules of a house are lit: asked of a module table's bytes, and answered by one of them.
+
+#![tactic(auto)]
+
 ghost use Rattle.std.specs.Prelude.{◌≡◌};
 ghost use Rattle.lit.specs.Lit.{lit_answer};
 

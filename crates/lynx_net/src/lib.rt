@@ -1,4 +1,7 @@
 // LynX-NET packets: network, node, sequence, length, data, check byte.
+
+#![tactic(auto)]
+
 ghost use Rattle.std.specs.Prelude.{◌≡◌, ◌+◌, ◌%◌, ◌^◌, ◌≤◌, [], ◌∷◌, length, slice_index};
 ghost use Rattle.ground.specs.Records.{sum_below};
 ghost use Rattle.std.proofs.lemmas.List.Edits.{sets};
@@ -15,7 +18,7 @@ pub mod payload;
 const NETWORK: u8 = 0x10;
 
 // What a packet carries. Its payload is so many of the packet's bytes from the fifth on.
-#[derive(Drop)]
+#[derive(Clone, Copy)]
 pub struct Packet {
     pub node: u8,
     pub sequence: u8,
@@ -24,7 +27,7 @@ pub struct Packet {
 }
 
 // What bytes are read as.
-#[derive(Drop)]
+#[derive(Clone, Copy)]
 pub enum PacketRead {
     Packet(Packet),
     Refused(Refusal),

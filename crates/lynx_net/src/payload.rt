@@ -16,7 +16,7 @@ use message::{Function, Message};
 pub const CLOSE: u8 = 0xFF;
 
 // What a payload's first byte asks for.
-#[derive(Drop)]
+#[derive(Clone, Copy)]
 pub enum Form {
     // A house, 1 to 16 units and FF.
     Addresses,
@@ -31,7 +31,7 @@ pub enum Form {
 }
 
 // What comes after the addresses of a payload.
-#[derive(Drop)]
+#[derive(Clone, Copy)]
 pub enum Ending {
     Nothing,
     Message(Message),
@@ -41,7 +41,7 @@ pub enum Ending {
 
 // The messages of a payload: an address for each of its units, then the ending. The units are the hexadecimal digits of one number, the first
 // the lowest.
-#[derive(Drop)]
+#[derive(Clone, Copy)]
 pub struct Messages {
     pub house: u8,
     pub count: u8,
@@ -50,7 +50,7 @@ pub struct Messages {
 }
 
 // One of these messages.
-#[derive(Drop)]
+#[derive(Clone, Copy)]
 pub enum MessageAt {
     Message(Message),
     // There are not so many.
@@ -58,7 +58,7 @@ pub enum MessageAt {
 }
 
 // What a payload is read as.
-#[derive(Drop)]
+#[derive(Clone, Copy)]
 pub enum PayloadRead {
     Messages(Messages),
     // Bytes of none of the forms.

@@ -7,7 +7,7 @@ use crate::Function;
 use ground::Refusal;
 
 // What a four-bit code stands for where the function bit is 1.
-#[derive(Drop)]
+#[derive(Clone, Copy)]
 pub(crate) enum Meaning {
     Function(Function),
     Extended,
@@ -15,7 +15,7 @@ pub(crate) enum Meaning {
 }
 
 // What a function's code is read as.
-#[derive(Drop)]
+#[derive(Clone, Copy)]
 pub enum FunctionRead {
     Function(Function),
     Refused(Refusal),

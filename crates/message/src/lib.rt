@@ -1,4 +1,7 @@
 // X-10 messages: what a press becomes, before it is half-cycles on the mains or bytes by radio.
+
+#![tactic(auto)]
+
 ghost use Rattle.std.specs.Prelude.{◌≡◌};
 ghost use Rattle.message.specs.Messages.{message_ok, same_message};
 ghost use Rattle.message.specs.declared.Message.TheVariants.{Address, Function as Command, Extended};
@@ -9,7 +12,7 @@ pub mod codes;
 pub mod word;
 
 // The twelve functions.
-#[derive(Drop)]
+#[derive(Clone, Copy)]
 pub enum Function {
     AllUnitsOff,
     AllLightsOn,
@@ -27,7 +30,7 @@ pub enum Function {
 
 // The three kinds of message. Houses A to P and units 1 to 16 are the numbers 0 to 15; a message with a house or a unit
 // above 15 is a value that routines refuse.
-#[derive(Drop)]
+#[derive(Clone, Copy)]
 pub enum Message {
     Address {
         house: u8,

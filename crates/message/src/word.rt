@@ -9,21 +9,21 @@ use crate::{Message, valid};
 use ground::Refusal;
 
 // A frame's bits, highest first, as one number, and how many there are: 9 or 29.
-#[derive(Drop)]
+#[derive(Clone, Copy)]
 pub struct Word {
     pub bits: u32,
     pub count: u32,
 }
 
 // The bits of a message, or why it has none.
-#[derive(Drop)]
+#[derive(Clone, Copy)]
 pub enum WordAnswer {
     Word(Word),
     Refused(Refusal),
 }
 
 // What a frame's bits say: a message; that more are to come; an unsupported code.
-#[derive(Drop)]
+#[derive(Clone, Copy)]
 pub enum Reading {
     Message(Message),
     Longer,

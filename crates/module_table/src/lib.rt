@@ -1,4 +1,7 @@
 // The lent bytes of a module table: whether they keep its rules, and an act run on the records of a house.
+
+#![tactic(auto)]
+
 ghost use Rattle.std.specs.Prelude.{◌≡◌, true, false, ℕ, ◌+◌, ◌*◌, ◌≤◌, ◌<◌, length};
 ghost use Rattle.std.proofs.lemmas.List.Edits.{sets};
 ghost use Rattle.ground.specs.Choice.{pick};
@@ -227,7 +230,7 @@ pub fn valid(t: &[u8]) -> bool
 
 // Which records of a house may change: that of one unit, and those whose "addressed" byte is `floor` or more. A unit above 15 is none,
 // a floor of 0 is any record, 1 those that are addressed, and 2 none, since that byte is 0 or 1.
-#[derive(Drop)]
+#[derive(Clone, Copy)]
 struct Reach {
     unit: u8,
     floor: u8,
@@ -362,7 +365,7 @@ fn step_at(t: &mut [u8], i: usize, act: Act, own: House, n: u8, o: Reach) -> usi
 }
 
 // How many levels of a house changed, and how many of its modules are above level 0 after it.
-#[derive(Drop)]
+#[derive(Clone, Copy)]
 struct HouseStepped {
     count: usize,
     lit: usize,

@@ -59,7 +59,7 @@ fn faults(fields: u32, presets: u32, references: u32) -> u32
 }
 
 // Whether the quick test finds no fault, and how many modules are above level 0.
-#[derive(Drop)]
+#[derive(Clone, Copy)]
 pub(crate) struct Quick {
     pub(crate) ok: bool,
     pub(crate) lit: u32,

@@ -1,5 +1,8 @@
 // The packet program: hexadecimal packets from standard input, one a line, and for each line what it is read as on standard output. The input is
 // read in pieces, in which a line may begin and end anywhere. The lines of a piece are gathered and written before the next piece is read.
+
+#![tactic(auto)]
+
 ghost use Rattle.std.specs.Prelude.{◌≡◌, ◌+◌, ◌≤◌};
 
 use libc::{STDIN_FILENO, STDOUT_FILENO};
@@ -16,7 +19,7 @@ const LAST: usize = 65024;
 const GREATEST: u64 = 18446744073709551615;
 
 // Where the program stands: the line that is being read, how many bytes are gathered, and whether every write has been done.
-#[derive(Drop)]
+#[derive(Clone, Copy)]
 struct Progress {
     line: Line,
     at: usize,
@@ -117,7 +120,7 @@ fn end_input(p: Progress, kept: &[u8; KEPT], out: &mut [u8; SIZE]) -> Progress {
 }
 
 // What a read gave.
-#[derive(Drop)]
+#[derive(Clone, Copy)]
 enum Got {
     Bytes(usize),
     Ended,
@@ -138,7 +141,7 @@ fn read(input: &mut [u8]) -> Got {
 }
 
 // Whether there is more to read, and where the program stands.
-#[derive(Drop)]
+#[derive(Clone, Copy)]
 struct Turn {
     progress: Progress,
     more: bool,

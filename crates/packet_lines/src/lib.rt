@@ -1,4 +1,7 @@
 // The lines of the packet program: the bytes that a line of hexadecimal digits names, and what is printed for it.
+
+#![tactic(auto)]
+
 ghost use Rattle.std.specs.Prelude.{◌≡◌, ◌+◌, ◌≤◌, ◌<◌, length, take};
 ghost use Rattle.ground.specs.Refusals.{refusal_number};
 ghost use Rattle.lynx_net.specs.Lists.{listed, nth};
@@ -24,7 +27,7 @@ pub const ROOM: usize = 512;
 pub const GREATEST: u64 = 18446744073709551615;
 
 // Where the reading of a line stands. Its bytes are kept beside it.
-#[derive(Drop)]
+#[derive(Clone, Copy)]
 pub struct Line {
     // How many bytes are kept.
     pub count: usize,

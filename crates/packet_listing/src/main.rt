@@ -4,6 +4,9 @@
 // data/listing.tsv has a row for each packet, in 002's order: the code of its command, the command's name and the bytes as 002 prints them,
 // parted by tabs. A row that is misprinted is marked by a fourth field: LENGTH where the length byte is wrong, CHECK where the check byte is,
 // CODE where the payload is another command's. A row of which not every byte is printed has no mark.
+
+#![tactic(auto)]
+
 ghost use Rattle.std.specs.Prelude.{◌+◌, ◌≤◌, ◌<◌, length};
 
 use libc::STDOUT_FILENO;
@@ -14,7 +17,7 @@ use text::front;
 const ROWS: usize = 76;
 
 // What is wrong with a packet as it is printed.
-#[derive(Drop)]
+#[derive(Clone, Copy)]
 enum Fault {
     Nothing,
     Length,
@@ -23,7 +26,7 @@ enum Fault {
 }
 
 // What a row turns out to be.
-#[derive(Drop)]
+#[derive(Clone, Copy)]
 enum Verdict {
     Read,
     // The packet is right, and A6 does not take its command.
@@ -211,7 +214,7 @@ fn judge_row(row: &[u8]) -> Verdict {
 }
 
 // How many rows had each verdict.
-#[derive(Drop)]
+#[derive(Clone, Copy)]
 struct Totals {
     read: u64,
     untaken: u64,

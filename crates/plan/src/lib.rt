@@ -1,4 +1,7 @@
 // What a message asks of the modules of its house or of the shutters, with the parts that its data byte holds. No table is looked at.
+
+#![tactic(auto)]
+
 ghost use Rattle.std.specs.Prelude.{◌≡◌, [], ◌∷◌};
 ghost use Rattle.ground.specs.Refusals.{unless, judged, refuses};
 ghost use Rattle.ground.specs.declared.Refusal.TheVariants.{Opening};
@@ -19,7 +22,7 @@ pub const OPEN: u8 = 25;
 pub const ABSOLUTE: u8 = 16;
 
 // What is asked of the members of a group.
-#[derive(Drop)]
+#[derive(Clone, Copy)]
 pub enum GroupAct {
     // They go to their presets.
     Execute,
@@ -33,7 +36,7 @@ pub enum GroupAct {
 
 // What is asked of the sixteen modules of a house. A unit is a number 0 to 15, a group 0 to 3, a level 0 to 63 and a reference 0 to 15, or
 // 16 for absolute; bit g of `groups` is set for group g.
-#[derive(Drop)]
+#[derive(Clone, Copy)]
 pub enum Act {
     // Heard, and no module changes.
     Nothing,
@@ -83,7 +86,7 @@ pub enum Act {
 
 // What is asked of the shutters. A unit is a number 0 to 15, an opening or limit 0 (closed) to 25 (open), a lifestyle 0 to 7; data can bring an opening up to
 // 31, which `motion_fits` tells.
-#[derive(Drop)]
+#[derive(Clone, Copy)]
 pub enum Motion {
     // Heard, and no shutter changes.
     SelfTest,
@@ -130,7 +133,7 @@ pub enum Motion {
 }
 
 // What becomes of a message: an act is run on modules, a motion on shutters, or the message is refused.
-#[derive(Drop)]
+#[derive(Clone, Copy)]
 pub enum Plan {
     Run(Act),
     Move(Motion),

@@ -1,4 +1,7 @@
 // Radio bytes: the four bytes of a radio command, the command that four bytes name, and the messages that it means.
+
+#![tactic(auto)]
+
 ghost use Rattle.std.specs.Prelude.{◌≡◌, true, [], ◌∷◌, ◌+◌, ◌/◌, ◌<◌};
 ghost use Rattle.ground.specs.Refusals.{judged, reports, refuses};
 ghost use Rattle.radio.specs.Codes.{nibble_of, house_of_nibble, command_ok, house_in_b, bit_at, unit_in_b, unit_in_c, unit_from, byte_b, byte_c};
@@ -11,7 +14,7 @@ use message::{Function, Message};
 
 // What a transmitter sends. Houses A to P and units 1 to 16 are the numbers 0 to 15; a command with a house or a unit above
 // 15 is a value that routines refuse.
-#[derive(Drop)]
+#[derive(Clone, Copy)]
 pub enum RadioCommand {
     On { house: u8, unit: u8 },
     Off { house: u8, unit: u8 },
@@ -20,7 +23,7 @@ pub enum RadioCommand {
 }
 
 // What the writer answers.
-#[derive(Drop)]
+#[derive(Clone, Copy)]
 pub enum RadioBytes {
     // The four bytes, in the order in which they are sent.
     Bytes(u8, u8, u8, u8),
@@ -29,7 +32,7 @@ pub enum RadioBytes {
 }
 
 // What the reader answers.
-#[derive(Drop)]
+#[derive(Clone, Copy)]
 pub enum RadioRead {
     Command(RadioCommand),
     // Not four bytes, a pair that is not complementary, or bytes that no command has.
@@ -37,7 +40,7 @@ pub enum RadioRead {
 }
 
 // The messages that a command means, in order.
-#[derive(Drop)]
+#[derive(Clone, Copy)]
 pub enum RadioMessages {
     Two(Message, Message),
     One(Message),

@@ -1,5 +1,8 @@
 // What a turned bit does: of each bit of b and of c, all that the 512 codes for on and off are read as when this bit and the same bit of the
 // complement are turned; then the same of a bit that is turned alone. docs/RADIO.md shows the table.
+
+#![tactic(auto)]
+
 ghost use Rattle.std.specs.Prelude.{◌<◌, ◌≤◌};
 
 use libc::STDOUT_FILENO;
@@ -21,7 +24,7 @@ const CODE: u16 = 512;
 const OTHER: u16 = 1024;
 
 // An on, or where off is 1 an off.
-#[derive(Drop)]
+#[derive(Clone, Copy)]
 struct Switch {
     house: u8,
     unit: u8,

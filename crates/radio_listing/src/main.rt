@@ -4,6 +4,9 @@
 // data/listing.tsv has a row for each of the 544 commands, house after house: the command, b and c as the listing prints them,
 // parted by tabs. A byte after '/' is printed a line below its command. A row that differs from 01's rule is marked: what the
 // rule says stands behind it, in three more fields.
+
+#![tactic(auto)]
+
 ghost use Rattle.std.specs.Prelude.{◌+◌, ◌≤◌, ◌<◌, length};
 
 use libc::STDOUT_FILENO;
@@ -150,7 +153,7 @@ fn printed_end(line: &[u8]) -> usize
 }
 
 // What a row of the listing turns out to be.
-#[derive(Drop)]
+#[derive(Clone, Copy)]
 enum Verdict {
     // The listing prints what the rule says.
     Agrees,
@@ -200,7 +203,7 @@ fn judge_row(number: usize, line: &[u8]) -> Verdict
 }
 
 // How many rows had each verdict.
-#[derive(Drop)]
+#[derive(Clone, Copy)]
 struct Totals {
     agree: u64,
     differ: u64,

@@ -17,14 +17,14 @@ use message::Message;
 use wire::{Five, KeptRead, five_none, five_of, kept_from};
 
 // What the five bytes of the message given before say.
-#[derive(Drop)]
+#[derive(Clone, Copy)]
 enum GivenRead {
     Given(Given),
     Refused(Refusal),
 }
 
 // What a receiver's bytes say.
-#[derive(Drop)]
+#[derive(Clone, Copy)]
 pub enum ReceiverRead {
     Receiver(Receiver),
     Refused(Refusal),
@@ -32,7 +32,7 @@ pub enum ReceiverRead {
 
 // A run over half-cycles up to the first that gives MESSAGE: the place of the half-cycle after the last that it took, or why it took none;
 // the receiver for that place; and the message given, if any.
-#[derive(Drop)]
+#[derive(Clone, Copy)]
 pub struct Stretch {
     pub answer: CountAnswer,
     pub next: Receiver,
@@ -40,7 +40,7 @@ pub struct Stretch {
 }
 
 // The same where nothing is refused.
-#[derive(Drop)]
+#[derive(Clone, Copy)]
 struct Ran {
     at: usize,
     next: Receiver,

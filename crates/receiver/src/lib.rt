@@ -1,4 +1,7 @@
 // The receiver: reads the mains back, one call per half-cycle.
+
+#![tactic(auto)]
+
 ghost use Rattle.std.specs.Prelude.{◌≡◌, true, ◌||◌, ◌≤◌, ◌/◌, ◌%◌, ◌^◌, leb};
 ghost use Rattle.ground.specs.Choice.{pick};
 ghost use Rattle.ground.specs.Refusals.{refusal_number, judged};
@@ -13,14 +16,14 @@ use message::{Message, same};
 pub mod lent;
 
 // A message or none: that given with the frame before, whose repeat may come next, or that which an event gives.
-#[derive(Drop)]
+#[derive(Clone, Copy)]
 pub enum Given {
     No,
     Yes(Message),
 }
 
 // A receiver, handed in and back by value. docs/receiver.md lists what each field may hold.
-#[derive(Drop)]
+#[derive(Clone, Copy)]
 pub struct Receiver {
     // The last six half-cycles as one number, the latest lowest; all ones before any has come.
     pub past: u8,
@@ -34,7 +37,7 @@ pub struct Receiver {
 }
 
 // What a half-cycle says.
-#[derive(Drop)]
+#[derive(Clone, Copy)]
 pub enum Event {
     Nothing,
     Message(Message),
@@ -48,7 +51,7 @@ pub enum Event {
     Refused(Refusal),
 }
 
-#[derive(Drop)]
+#[derive(Clone, Copy)]
 pub struct Heard {
     pub event: Event,
     pub next: Receiver,

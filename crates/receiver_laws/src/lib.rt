@@ -1,1 +1,3 @@
 // Theorems only: what a receiver hears of a burst. The statements stand in specs/, their proofs in proofs/.
+
+#![tactic(auto)]

@@ -1,1 +1,3 @@
 // Theorems only: what is said by a receiver, read off all half-cycles that came.
+
+#![tactic(auto)]

@@ -1,5 +1,8 @@
 // One module's record and a house's own bytes, by value: their fields, the rules of valid ones, and what an act does to them. The
 // table's bytes are the crate above; their sizes stand here, once for all, beside specs/Layout.antt.
+
+#![tactic(auto)]
+
 ghost use Rattle.std.specs.Prelude.{◌≡◌};
 ghost use Rattle.ground.specs.Choice.{pick};
 ghost use Rattle.record.specs.ModuleTable.{level_ok, fields_ok, preset_ok, reference_ok, group_ok, heard_ok};
@@ -37,7 +40,7 @@ pub const TABLE_BYTES: usize = HEARD_AT + HOUSES * HOUSE_BYTES;
 
 // What a module is in the four groups: bit g of the mask is set for a member of group g; its preset there, and its reference 0 to 15, or 16
 // for an absolute member.
-#[derive(Drop)]
+#[derive(Clone, Copy)]
 pub struct Groups {
     pub mask: u8,
     pub presets: [u8; GROUPS],
@@ -45,7 +48,7 @@ pub struct Groups {
 }
 
 // What a module is in one of them.
-#[derive(Drop)]
+#[derive(Clone, Copy)]
 pub struct Membership {
     pub member: bool,
     pub preset: u8,
@@ -53,7 +56,7 @@ pub struct Membership {
 }
 
 // A module: kind 0 none, 1 lamp, 2 appliance.
-#[derive(Drop)]
+#[derive(Clone, Copy)]
 pub struct Record {
     pub kind: u8,
     pub level: u8,
@@ -63,7 +66,7 @@ pub struct Record {
 
 // The bytes of a house beside its records': 1 where it has heard a command since an address, else 0; and how many of its modules are
 // above level 0.
-#[derive(Drop)]
+#[derive(Clone, Copy)]
 pub struct House {
     pub heard: u8,
     pub lit: u8,

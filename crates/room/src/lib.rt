@@ -1,4 +1,7 @@
 // A room: its lent module table and shutter table, judged once, and a message applied to them.
+
+#![tactic(auto)]
+
 ghost use Rattle.std.specs.Prelude.{◌≡◌, true};
 ghost use Rattle.room.specs.Rooms.{room_of, room_ok, room_after, apply_answer, apply_report, room_report, tallied};
 ghost use Rattle.room.specs.Lent.{room_verdict, levels_answer, openings_answer};
@@ -14,7 +17,7 @@ pub mod packets;
 pub mod routes;
 
 // What has changed in a room.
-#[derive(Drop)]
+#[derive(Clone, Copy)]
 pub struct Changes {
     // How many modules have another level than before.
     pub levels: usize,
@@ -23,7 +26,7 @@ pub struct Changes {
 }
 
 // What a routine on a room answers.
-#[derive(Drop)]
+#[derive(Clone, Copy)]
 pub enum RoomAnswer {
     Done(Changes),
     Refused(Refusal),
@@ -40,7 +43,7 @@ pub fn tally(a: RoomAnswer) -> CountAnswer
 }
 
 // Whether both tables can be used, or why not.
-#[derive(Drop)]
+#[derive(Clone, Copy)]
 pub(crate) enum RoomJudged {
     Fine,
     Refused(Refusal),

@@ -16,7 +16,7 @@ use shutter_table::SHUTTER_BYTES;
 use wire::pack;
 
 // The receiver after a slice, and what has changed in the room.
-#[derive(Drop)]
+#[derive(Clone, Copy)]
 struct Heeded {
     next: Receiver,
     changes: Changes,

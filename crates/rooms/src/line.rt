@@ -12,7 +12,7 @@ pub(crate) const ANSWERS: usize = LINE * 8;
 
 // A room, the receiver that listens to the mains for it, in its thirteen bytes, and what the tables answered to the half-cycles of the last
 // line.
-#[derive(Drop)]
+#[derive(Clone, Copy)]
 pub(crate) struct Listening {
     pub(crate) room: Room,
     pub(crate) state: [u8; 13],

@@ -1,5 +1,8 @@
 // Sequences of messages that a user would try, each on a few modules, and in `shutters` on a few shutters. What the file `stdout` says was
 // worked out from the papers by hand.
+
+#![tactic(auto)]
+
 use line::{listen, wall_on};
 use lit::lit;
 use message::{Function, Message};

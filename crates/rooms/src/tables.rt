@@ -9,7 +9,7 @@ use room::routes::radio_route;
 use shutter_table::SHUTTER_TABLE_BYTES;
 
 // A module table and a shutter table.
-#[derive(Drop)]
+#[derive(Clone, Copy)]
 pub(crate) struct Room {
     pub(crate) table: [u8; TABLE_BYTES],
     pub(crate) shutters: [u8; SHUTTER_TABLE_BYTES],

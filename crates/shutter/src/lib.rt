@@ -1,4 +1,7 @@
 // One shutter by value: its fields, tests of them and of a lifestyle, and what a motion makes of it. The table's bytes are the crate above.
+
+#![tactic(auto)]
+
 ghost use Rattle.std.specs.Prelude.{◌≡◌, min, eqb, get_or, set};
 ghost use Rattle.ground.specs.Choice.{pick};
 ghost use Rattle.plan.specs.Motions.{OPEN};
@@ -12,7 +15,7 @@ pub const LIFESTYLES: usize = 8;
 
 // A shutter: present 0 or 1; its opening, 0 closed to 25 open, and its limit; sun protection 0 or 1; for each lifestyle a mark, 1 where it is included, and its
 // opening there.
-#[derive(Drop)]
+#[derive(Clone, Copy)]
 pub struct Shutter {
     pub present: u8,
     pub opening: u8,

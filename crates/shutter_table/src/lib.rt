@@ -1,4 +1,7 @@
 // The lent bytes of a shutter table: whether they keep its rules, and a motion run on the shutters that it reaches.
+
+#![tactic(auto)]
+
 ghost use Rattle.std.specs.Prelude.{◌≡◌, true, [], ◌∷◌, ◌+◌, ◌*◌, ◌≤◌, ◌<◌, length};
 ghost use Rattle.std.proofs.lemmas.List.Edits.{sets};
 ghost use Rattle.ground.specs.Records.{put_at, Stepped, all_below};
@@ -270,7 +273,7 @@ fn step_whole(t: &mut [u8], i: usize, motion: Motion) -> usize
 }
 
 // The places that a motion reaches: how many they are, and the first of them.
-#[derive(Drop)]
+#[derive(Clone, Copy)]
 struct Places {
     first: usize,
     many: usize,

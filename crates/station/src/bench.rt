@@ -11,7 +11,7 @@ use ground::Refusal;
 pub const SLOTS: usize = 16;
 
 // What one half-cycle of a bench answers.
-#[derive(Drop)]
+#[derive(Clone, Copy)]
 pub enum BenchAnswer {
     // The line's half-cycle.
     Line(u8),
@@ -19,7 +19,7 @@ pub enum BenchAnswer {
 }
 
 // The answer, which stations are DONE, and the slots as the call leaves them.
-#[derive(Drop)]
+#[derive(Clone, Copy)]
 pub struct BenchTurn {
     pub answer: BenchAnswer,
     pub done: [bool; 16],

@@ -1,4 +1,7 @@
 // A sending station: holds at most one message, waits for a clear line, and sends the message's burst half-cycle by half-cycle.
+
+#![tactic(auto)]
+
 ghost use Rattle.std.specs.Prelude.{◌≡◌, true, ◌∷◌, [], ◌+◌, ◌<◌, ◌≤◌, get_or};
 ghost use Rattle.ground.specs.Refusals.{judged, reports, refuses, refusal_number};
 ghost use Rattle.message.specs.Messages.{message_ok};
@@ -13,14 +16,14 @@ use message::word::{WordAnswer, word_of};
 
 pub mod bench;
 
-#[derive(Drop)]
+#[derive(Clone, Copy)]
 pub enum Held {
     Empty,
     Holds(Message),
 }
 
 // A station, handed in and back by value.
-#[derive(Drop)]
+#[derive(Clone, Copy)]
 pub struct Station {
     pub held: Held,
     // The wait drawn, 8 to 10.
@@ -32,41 +35,41 @@ pub struct Station {
 }
 
 // What loading answers.
-#[derive(Drop)]
+#[derive(Clone, Copy)]
 pub enum LoadAnswer {
     Loaded,
     Refused(Refusal),
 }
 
-#[derive(Drop)]
+#[derive(Clone, Copy)]
 pub struct Loading {
     pub answer: LoadAnswer,
     pub next: Station,
 }
 
 // What a station sends in this half-cycle.
-#[derive(Drop)]
+#[derive(Clone, Copy)]
 pub enum SendAnswer {
     Sends(u8),
     Refused(Refusal),
 }
 
 // What one half-cycle of a station answers.
-#[derive(Drop)]
+#[derive(Clone, Copy)]
 pub enum TurnAnswer {
     Going,
     Done,
     Refused(Refusal),
 }
 
-#[derive(Drop)]
+#[derive(Clone, Copy)]
 pub struct Turn {
     pub answer: TurnAnswer,
     pub next: Station,
 }
 
 // The numbers of a station with a message after a half-cycle. Where it is done it has sent its whole burst, and is empty.
-#[derive(Drop)]
+#[derive(Clone, Copy)]
 pub(crate) struct Move {
     done: bool,
     wait: u8,

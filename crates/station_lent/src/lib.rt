@@ -1,4 +1,7 @@
 // A station in eight lent bytes: made empty there, loaded, asked what it sends, and advanced by a half-cycle.
+
+#![tactic(auto)]
+
 ghost use Rattle.std.specs.Prelude.{◌≡◌, [], ◌∷◌, length};
 ghost use Rattle.ground.specs.Refusals.{count_report, reports, refuses, judged};
 ghost use Rattle.wire.specs.Messages.{listed};

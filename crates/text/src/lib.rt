@@ -1,4 +1,7 @@
 // Houses, units, messages and numbers as programs print them: short texts, handed back by value.
+
+#![tactic(auto)]
+
 ghost use Rattle.std.specs.Prelude.{◌≡◌, [], ◌∷◌, ◌++◌, ◌+◌, ◌≤◌, ◌<◌, length, take};
 ghost use Rattle.message.specs.declared.Message.TheVariants.{Address, Function as Command, Extended};
 ghost use Rattle.text.specs.Texts.{digits_of, letter_of, hex_digit, hex_of, trimmed, place_text, message_text, text_of, Put};
@@ -10,7 +13,7 @@ use message::{Function, Message};
 pub const ROOM: usize = 32;
 
 // A text of at most 32 bytes; the bytes past its length are 0.
-#[derive(Drop)]
+#[derive(Clone, Copy)]
 pub struct Text {
     pub bytes: [u8; ROOM],
     pub length: usize,

@@ -1,5 +1,8 @@
 // Runs of a bench, drawn half-cycle by half-cycle: what the line has, what a receiver hears on it, who sends, who gives way and who is
 // DONE.
+
+#![tactic(auto)]
+
 mod heard;
 mod page;
 mod stations;

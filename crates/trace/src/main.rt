@@ -1,5 +1,8 @@
 // The trace program: what the line says, one line an event, from half-cycles of 0 and 1 on standard input. Its run here has every kind
 // of line but BADBYTE, which trace_runs has.
+
+#![tactic(auto)]
+
 use libc::{STDIN_FILENO, STDOUT_FILENO};
 use trace_lines::SIZE;
 

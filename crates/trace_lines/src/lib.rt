@@ -1,4 +1,7 @@
 // The lines of the trace program, and the trace of a piece of its input.
+
+#![tactic(auto)]
+
 ghost use Rattle.std.specs.Prelude.{◌≡◌, false, ◌+◌, ◌≤◌, length, take};
 ghost use Rattle.receiver.specs.Receivers.{step_of};
 ghost use Rattle.text.specs.Texts.{digits_of, message_text, Put};
@@ -20,7 +23,7 @@ pub const LAST: usize = 65472;
 pub const GREATEST: u64 = 18446744073709551615;
 
 // What a line says.
-#[derive(Drop)]
+#[derive(Clone, Copy)]
 pub enum Line {
     Message(Message),
     Repeat,
@@ -30,7 +33,7 @@ pub enum Line {
 }
 
 // Where a trace stands.
-#[derive(Drop)]
+#[derive(Clone, Copy)]
 pub struct Progress {
     pub receiver: Receiver,
     // The number that the next half-cycle has.
@@ -40,14 +43,14 @@ pub struct Progress {
 }
 
 // Where a trace stands after a byte, and the place in the buffer after its line.
-#[derive(Drop)]
+#[derive(Clone, Copy)]
 pub struct Printed {
     pub progress: Progress,
     pub at: usize,
 }
 
 // What became of a piece of the input: where the trace stands, how many of the bytes were taken, and how many are in the buffer.
-#[derive(Drop)]
+#[derive(Clone, Copy)]
 pub struct Traced {
     pub progress: Progress,
     pub taken: usize,

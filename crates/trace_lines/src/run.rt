@@ -6,7 +6,7 @@ ghost use Rattle.trace_lines.specs.Runs.{buffers_of, buffer_after, got_of, bytes
 use crate::{GREATEST, Progress, SIZE, begin, trace};
 
 // What a read gave.
-#[derive(Drop)]
+#[derive(Clone, Copy)]
 pub enum Got {
     Bytes(usize),
     Ended,
@@ -14,7 +14,7 @@ pub enum Got {
 }
 
 // Whether a run goes on, or why it ends: with its input, at a byte that stops the trace, where a read or a write failed.
-#[derive(Drop)]
+#[derive(Clone, Copy)]
 pub enum Outcome {
     GoesOn,
     InputEnded,
@@ -24,14 +24,14 @@ pub enum Outcome {
 }
 
 // Where a trace stands after a piece, and whether all of its lines were written.
-#[derive(Drop)]
+#[derive(Clone, Copy)]
 struct Piece {
     progress: Progress,
     written: bool,
 }
 
 // The same with what the read gave.
-#[derive(Drop)]
+#[derive(Clone, Copy)]
 struct Turn {
     progress: Progress,
     got: Got,
@@ -39,7 +39,7 @@ struct Turn {
 }
 
 // A run that has ended.
-#[derive(Drop)]
+#[derive(Clone, Copy)]
 pub struct Ran {
     pub progress: Progress,
     pub outcome: Outcome,

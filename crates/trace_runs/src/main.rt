@@ -12,6 +12,9 @@
 // data/damaged_second: in the second copy of A1; the burst of A on, which the hunt finds while it waits, is damaged in the ninth pair of its first copy.
 // data/damaged_start: in the first copy's start, with which nothing is heard of the burst, and in the second's. data/unsupported has a frame with code 10,
 // after which no start is waited for.
+
+#![tactic(auto)]
+
 use libc::STDOUT_FILENO;
 use trace_lines::SIZE;
 use trace_lines::run::{Outcome, run};

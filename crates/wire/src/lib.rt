@@ -1,4 +1,7 @@
 // Messages and answers as numbers: what a caller in another language hands in and gets back.
+
+#![tactic(auto)]
+
 ghost use Rattle.std.specs.Prelude.{◌≡◌};
 ghost use Rattle.ground.specs.Refusals.{number_given};
 ghost use Rattle.wire.specs.Messages.{taken_message, message_from, message_causes, message_report, message_bytes, listed};
@@ -10,7 +13,7 @@ use message::Message;
 use message::codes::{FunctionRead, function_at, function_code};
 
 // What five numbers say.
-#[derive(Drop)]
+#[derive(Clone, Copy)]
 pub enum MessageRead {
     Message(Message),
     Refused(Refusal),
@@ -18,7 +21,7 @@ pub enum MessageRead {
 
 // The five numbers of a message: its kind (1 address, 2 function, 3 extended), its house, its unit or its function's code, and the
 // data and the command of an extended one.
-#[derive(Drop)]
+#[derive(Clone, Copy)]
 pub struct Five {
     pub kind: u8,
     pub house: u8,
@@ -28,7 +31,7 @@ pub struct Five {
 }
 
 // What five bytes say that keep a message or none.
-#[derive(Drop)]
+#[derive(Clone, Copy)]
 pub enum KeptRead {
     Nothing,
     Message(Message),

@@ -5,7 +5,7 @@ ghost use Rattle.x10.specs.Commands.{command_from, three_listed, command_bytes};
 use radio::RadioCommand;
 
 // The three numbers of a radio command: 0 on, 1 off, 2 bright, 3 dim; its house; its unit, 0 where it has none.
-#[derive(Drop)]
+#[derive(Clone, Copy)]
 pub struct Three {
     pub command: u8,
     pub house: u8,

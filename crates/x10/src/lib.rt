@@ -1,5 +1,8 @@
 // The routines that programs in C and Rust link: over numbers and lent bytes, each with one number as its answer (wire's `pack`). Every
 // number and every slice is taken; a refusal changes nothing that was lent.
+
+#![tactic(auto)]
+
 ghost use Rattle.std.specs.Prelude.{◌≡◌, ◌≤◌, length};
 ghost use Rattle.std.proofs.lemmas.List.Edits.{sets};
 ghost use Rattle.burst.specs.Writer.{burst_answer, buffer_after};
