@@ -1,0 +1,20 @@
+-- `whole_burst` meets its contract: the first frame is at the front, and the same half-cycles are put behind it.
+use mathlib.Core.Path.{◌∙◌, ap}
+use Prim.Native.Nat.{ℕ}
+use lib.Seq.{sets, paste}
+use Rattle.message.specs.declared.word.Word.{Word}
+use Rattle.burst.specs.Frames.{bits_of, pairs_of}
+use Rattle.burst.proofs.Writing.{started, frame_placed, burst_placed, length-of_word}
+use Rattle.burst.proofs.whole_burst.Goals as goal
+
+pub returns : goal.returns
+returns c =
+    λ m e.
+    let w = c.args.w in
+    let a = c.first_frame.result in
+    let first = c.first_frame.ensures
+    ∙ ap (λ (v : Word). sets started 4 (pairs_of (bits_of v.count v.bits))) e
+    ∙ frame_placed m in
+    c.put_again.ensures
+    ∙ ap (λ (k : ℕ). paste a k a k) (length-of_word m w c.frame_length.result e c.frame_length.ensures)
+    ∙ burst_placed m a first
