@@ -8,7 +8,7 @@ use lib.ListN.{length, drop, get_or, set, drop_of_length-le}
 use lib.Seq.{sets, drop-cons}
 use Rattle.text.specs.Texts.{trimmed, Put}
 use Rattle.text.proofs.TextLaws.{trim_none, trim_end, trim_more}
-use Rattle.text.proofs.put_word.Invariants.{Rest, bytes, count, whole, within}
+use Rattle.text.proofs.put_word.Invariants.{Rest}
 use Rattle.text.proofs.put_word.Goals as goal
 
 module _ {out₀ : List ℕ} {at : ℕ} {text out : List ℕ} {i : ℕ} (r : Rest out₀ at text out i) where
@@ -47,5 +47,5 @@ loop-i-preserved c = step c.loop-i.invariant (omega arith) c.if-b-eq0.false
 pub returns : goal.returns
 returns c =
     let r = c.loop-i.invariant in
-    let past : length c.args.t3 ≤ c.loop-i.i = omega (arith, r.whole) in
-    ends r (ap trimmed (drop_of_length-le c.args.t3 past) ∙ trim_none)
+    let past : length c.args.word ≤ c.loop-i.i = omega (arith, r.whole) in
+    ends r (ap trimmed (drop_of_length-le c.args.word past) ∙ trim_none)

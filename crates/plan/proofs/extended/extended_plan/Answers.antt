@@ -42,33 +42,31 @@ returns-in-55 c = simp (c.in-55.is, c.status_plan.ensures)
 pub returns-then-command : goal.returns-then-command
 unfolding extended_plan
 returns-then-command c =
-    let rest = c.«??match».rest in
     simp (
-      ne_eqb _ _ rest.0.0.0.0.0.0.0.0.1,
-      ne_eqb _ _ rest.0.0.0.0.0.0.0.1,
-      ne_eqb _ _ rest.0.0.0.0.0.0.1,
-      ne_eqb _ _ rest.0.0.0.0.0.1,
-      ne_eqb _ _ rest.0.0.0.0.1,
-      ne_eqb _ _ rest.0.0.0.1,
-      ne_eqb _ _ rest.0.0.1,
-      ne_eqb _ _ rest.0.1,
-      ne_eqb _ _ rest.1,
+      ne_eqb _ _ c.in_default.not-48,
+      ne_eqb _ _ c.in_default.not-49,
+      ne_eqb _ _ c.in_default.not-50,
+      ne_eqb _ _ c.in_default.not-51,
+      ne_eqb _ _ c.in_default.not-52,
+      ne_eqb _ _ c.in_default.not-53,
+      ne_eqb _ _ c.in_default.not-54,
+      ne_eqb _ _ c.in_default.not-60,
+      ne_eqb _ _ c.in_default.not-55,
       c.if-command.true,
     )
 
 pub returns-else-command : goal.returns-else-command
 unfolding extended_plan
 returns-else-command c =
-    let rest = c.«??match».rest in
     simp (
-      ne_eqb _ _ rest.0.0.0.0.0.0.0.0.1,
-      ne_eqb _ _ rest.0.0.0.0.0.0.0.1,
-      ne_eqb _ _ rest.0.0.0.0.0.0.1,
-      ne_eqb _ _ rest.0.0.0.0.0.1,
-      ne_eqb _ _ rest.0.0.0.0.1,
-      ne_eqb _ _ rest.0.0.0.1,
-      ne_eqb _ _ rest.0.0.1,
-      ne_eqb _ _ rest.0.1,
-      ne_eqb _ _ rest.1,
+      ne_eqb _ _ c.in_default.not-48,
+      ne_eqb _ _ c.in_default.not-49,
+      ne_eqb _ _ c.in_default.not-50,
+      ne_eqb _ _ c.in_default.not-51,
+      ne_eqb _ _ c.in_default.not-52,
+      ne_eqb _ _ c.in_default.not-53,
+      ne_eqb _ _ c.in_default.not-54,
+      ne_eqb _ _ c.in_default.not-60,
+      ne_eqb _ _ c.in_default.not-55,
       c.if-command.false,
     )

@@ -50,37 +50,35 @@ returns-in-12 c = simp c.in-12.is
 pub returns-then-command : goal.returns-then-command
 unfolding motion_plan
 returns-then-command c =
-    let rest = c.«??match».rest in
     simp (
-      ne_eqb _ _ rest.0.0.0.0.0.0.0.0.0.0.1,
-      ne_eqb _ _ rest.0.0.0.0.0.0.0.0.0.1,
-      ne_eqb _ _ rest.0.0.0.0.0.0.0.0.1,
-      ne_eqb _ _ rest.0.0.0.0.0.0.0.1,
-      ne_eqb _ _ rest.0.0.0.0.0.0.1,
-      ne_eqb _ _ rest.0.0.0.0.0.1,
-      ne_eqb _ _ rest.0.0.0.0.1,
-      ne_eqb _ _ rest.0.0.0.1,
-      ne_eqb _ _ rest.0.0.1,
-      ne_eqb _ _ rest.0.1,
-      ne_eqb _ _ rest.1,
+      ne_eqb _ _ c.in_default.not-1,
+      ne_eqb _ _ c.in_default.not-2,
+      ne_eqb _ _ c.in_default.not-3,
+      ne_eqb _ _ c.in_default.not-4,
+      ne_eqb _ _ c.in_default.not-5,
+      ne_eqb _ _ c.in_default.not-7,
+      ne_eqb _ _ c.in_default.not-8,
+      ne_eqb _ _ c.in_default.not-9,
+      ne_eqb _ _ c.in_default.not-10,
+      ne_eqb _ _ c.in_default.not-11,
+      ne_eqb _ _ c.in_default.not-12,
       c.if-command.true,
     )
 
 pub returns-else-command : goal.returns-else-command
 unfolding motion_plan
 returns-else-command c =
-    let rest = c.«??match».rest in
     simp (
-      ne_eqb _ _ rest.0.0.0.0.0.0.0.0.0.0.1,
-      ne_eqb _ _ rest.0.0.0.0.0.0.0.0.0.1,
-      ne_eqb _ _ rest.0.0.0.0.0.0.0.0.1,
-      ne_eqb _ _ rest.0.0.0.0.0.0.0.1,
-      ne_eqb _ _ rest.0.0.0.0.0.0.1,
-      ne_eqb _ _ rest.0.0.0.0.0.1,
-      ne_eqb _ _ rest.0.0.0.0.1,
-      ne_eqb _ _ rest.0.0.0.1,
-      ne_eqb _ _ rest.0.0.1,
-      ne_eqb _ _ rest.0.1,
-      ne_eqb _ _ rest.1,
+      ne_eqb _ _ c.in_default.not-1,
+      ne_eqb _ _ c.in_default.not-2,
+      ne_eqb _ _ c.in_default.not-3,
+      ne_eqb _ _ c.in_default.not-4,
+      ne_eqb _ _ c.in_default.not-5,
+      ne_eqb _ _ c.in_default.not-7,
+      ne_eqb _ _ c.in_default.not-8,
+      ne_eqb _ _ c.in_default.not-9,
+      ne_eqb _ _ c.in_default.not-10,
+      ne_eqb _ _ c.in_default.not-11,
+      ne_eqb _ _ c.in_default.not-12,
       c.if-command.false,
     )
