@@ -1,4 +1,5 @@
 -- `extended::extended_plan` meets its contract: each arm names the command, and past the arms it is none of them.
+use native.Mathlib.Omega.{arith}
 use borrow.Author.Tests.{ne_eqb}
 use Rattle.plan.specs.Plans.{extended_plan}
 use Rattle.plan.proofs.extended.extended_plan.Goals as goal
@@ -43,15 +44,15 @@ pub returns-then-command : goal.returns-then-command
 unfolding extended_plan
 returns-then-command c =
     simp (
-      ne_eqb _ _ c.in_default.not-48,
-      ne_eqb _ _ c.in_default.not-49,
-      ne_eqb _ _ c.in_default.not-50,
-      ne_eqb _ _ c.in_default.not-51,
-      ne_eqb _ _ c.in_default.not-52,
-      ne_eqb _ _ c.in_default.not-53,
-      ne_eqb _ _ c.in_default.not-54,
-      ne_eqb _ _ c.in_default.not-60,
-      ne_eqb _ _ c.in_default.not-55,
+      ne_eqb c.args.command 48 (omega arith),
+      ne_eqb c.args.command 49 (omega arith),
+      ne_eqb c.args.command 50 (omega arith),
+      ne_eqb c.args.command 51 (omega arith),
+      ne_eqb c.args.command 52 (omega arith),
+      ne_eqb c.args.command 53 (omega arith),
+      ne_eqb c.args.command 54 (omega arith),
+      ne_eqb c.args.command 60 (omega arith),
+      ne_eqb c.args.command 55 (omega arith),
       c.if-command.true,
     )
 
@@ -59,14 +60,14 @@ pub returns-else-command : goal.returns-else-command
 unfolding extended_plan
 returns-else-command c =
     simp (
-      ne_eqb _ _ c.in_default.not-48,
-      ne_eqb _ _ c.in_default.not-49,
-      ne_eqb _ _ c.in_default.not-50,
-      ne_eqb _ _ c.in_default.not-51,
-      ne_eqb _ _ c.in_default.not-52,
-      ne_eqb _ _ c.in_default.not-53,
-      ne_eqb _ _ c.in_default.not-54,
-      ne_eqb _ _ c.in_default.not-60,
-      ne_eqb _ _ c.in_default.not-55,
+      ne_eqb c.args.command 48 (omega arith),
+      ne_eqb c.args.command 49 (omega arith),
+      ne_eqb c.args.command 50 (omega arith),
+      ne_eqb c.args.command 51 (omega arith),
+      ne_eqb c.args.command 52 (omega arith),
+      ne_eqb c.args.command 53 (omega arith),
+      ne_eqb c.args.command 54 (omega arith),
+      ne_eqb c.args.command 60 (omega arith),
+      ne_eqb c.args.command 55 (omega arith),
       c.if-command.false,
     )

@@ -1,4 +1,5 @@
 -- `motions::motion_plan` meets its contract: each arm names the command, and past the arms it is none of them.
+use native.Mathlib.Omega.{arith}
 use borrow.Author.Tests.{ne_eqb}
 use Rattle.plan.specs.Motions.{motion_plan}
 use Rattle.plan.proofs.motions.motion_plan.Goals as goal
@@ -51,17 +52,17 @@ pub returns-then-command : goal.returns-then-command
 unfolding motion_plan
 returns-then-command c =
     simp (
-      ne_eqb _ _ c.in_default.not-1,
-      ne_eqb _ _ c.in_default.not-2,
-      ne_eqb _ _ c.in_default.not-3,
-      ne_eqb _ _ c.in_default.not-4,
-      ne_eqb _ _ c.in_default.not-5,
-      ne_eqb _ _ c.in_default.not-7,
-      ne_eqb _ _ c.in_default.not-8,
-      ne_eqb _ _ c.in_default.not-9,
-      ne_eqb _ _ c.in_default.not-10,
-      ne_eqb _ _ c.in_default.not-11,
-      ne_eqb _ _ c.in_default.not-12,
+      ne_eqb c.args.command 1 (omega arith),
+      ne_eqb c.args.command 2 (omega arith),
+      ne_eqb c.args.command 3 (omega arith),
+      ne_eqb c.args.command 4 (omega arith),
+      ne_eqb c.args.command 5 (omega arith),
+      ne_eqb c.args.command 7 (omega arith),
+      ne_eqb c.args.command 8 (omega arith),
+      ne_eqb c.args.command 9 (omega arith),
+      ne_eqb c.args.command 10 (omega arith),
+      ne_eqb c.args.command 11 (omega arith),
+      ne_eqb c.args.command 12 (omega arith),
       c.if-command.true,
     )
 
@@ -69,16 +70,16 @@ pub returns-else-command : goal.returns-else-command
 unfolding motion_plan
 returns-else-command c =
     simp (
-      ne_eqb _ _ c.in_default.not-1,
-      ne_eqb _ _ c.in_default.not-2,
-      ne_eqb _ _ c.in_default.not-3,
-      ne_eqb _ _ c.in_default.not-4,
-      ne_eqb _ _ c.in_default.not-5,
-      ne_eqb _ _ c.in_default.not-7,
-      ne_eqb _ _ c.in_default.not-8,
-      ne_eqb _ _ c.in_default.not-9,
-      ne_eqb _ _ c.in_default.not-10,
-      ne_eqb _ _ c.in_default.not-11,
-      ne_eqb _ _ c.in_default.not-12,
+      ne_eqb c.args.command 1 (omega arith),
+      ne_eqb c.args.command 2 (omega arith),
+      ne_eqb c.args.command 3 (omega arith),
+      ne_eqb c.args.command 4 (omega arith),
+      ne_eqb c.args.command 5 (omega arith),
+      ne_eqb c.args.command 7 (omega arith),
+      ne_eqb c.args.command 8 (omega arith),
+      ne_eqb c.args.command 9 (omega arith),
+      ne_eqb c.args.command 10 (omega arith),
+      ne_eqb c.args.command 11 (omega arith),
+      ne_eqb c.args.command 12 (omega arith),
       c.if-command.false,
     )
