@@ -32,6 +32,7 @@ module _ {A : Type 0} where
   get_d_mem (x ∷ xs) (suc i) d h = Memᴰ.tail (get_d_mem xs i d (le_of_suc-le-suc h))
 
   pub every_mem : (f : A → Bool) (xs : List A) (i : ℕ) {x : A} → every_from (λ k y. f y) i xs ≡ true → Memᴰ x xs → f x ≡ true
+  every_mem f [] i t m = elim m [ ]
   every_mem f (y ∷ ys) i t (Memᴰ.head e) = ap f e ∙ ((and-eq-true_iff (f y) (every_from (λ k y. f y) (suc i) ys)).0 t).0
   every_mem f (y ∷ ys) i t (Memᴰ.tail m) = every_mem f ys (suc i) ((and-eq-true_iff (f y) (every_from (λ k y. f y) (suc i) ys)).0 t).1 m
 
@@ -111,6 +112,7 @@ module _ {A : Type 0} (same : A → A → Bool) (a : A) where
 
   place-within : {x : A} (xs : List A) → Memᴰ x xs → same a x ≡ true → place_in same a xs < length xs
   unfolding place_in
+  place-within [] m t = elim m [ ]
   place-within (y ∷ ys) (Memᴰ.head e) t = rw (ap (same a) (sym e) ∙ t) (omega arith)
   place-within (y ∷ ys) (Memᴰ.tail m) t =
       let rest = place-within ys m t in

@@ -1,4 +1,5 @@
 -- `extended::extended_plan` meets its contract: each arm names the command, and past the arms it is none of them.
+use native.Mathlib.Omega.{arith}
 use borrow.Author.Tests.{ne_eqb}
 use Rattle.plan.specs.Plans.{extended_plan}
 use Rattle.plan.proofs.extended.extended_plan.Goals as goal
@@ -42,33 +43,31 @@ returns-in-55 c = simp (c.in-55.is, c.status_plan.ensures)
 pub returns-then-command : goal.returns-then-command
 unfolding extended_plan
 returns-then-command c =
-    let rest = c.«??match».rest in
     simp (
-      ne_eqb _ _ rest.0.0.0.0.0.0.0.0.1,
-      ne_eqb _ _ rest.0.0.0.0.0.0.0.1,
-      ne_eqb _ _ rest.0.0.0.0.0.0.1,
-      ne_eqb _ _ rest.0.0.0.0.0.1,
-      ne_eqb _ _ rest.0.0.0.0.1,
-      ne_eqb _ _ rest.0.0.0.1,
-      ne_eqb _ _ rest.0.0.1,
-      ne_eqb _ _ rest.0.1,
-      ne_eqb _ _ rest.1,
+      ne_eqb c.args.command 48 (omega arith),
+      ne_eqb c.args.command 49 (omega arith),
+      ne_eqb c.args.command 50 (omega arith),
+      ne_eqb c.args.command 51 (omega arith),
+      ne_eqb c.args.command 52 (omega arith),
+      ne_eqb c.args.command 53 (omega arith),
+      ne_eqb c.args.command 54 (omega arith),
+      ne_eqb c.args.command 60 (omega arith),
+      ne_eqb c.args.command 55 (omega arith),
       c.if-command.true,
     )
 
 pub returns-else-command : goal.returns-else-command
 unfolding extended_plan
 returns-else-command c =
-    let rest = c.«??match».rest in
     simp (
-      ne_eqb _ _ rest.0.0.0.0.0.0.0.0.1,
-      ne_eqb _ _ rest.0.0.0.0.0.0.0.1,
-      ne_eqb _ _ rest.0.0.0.0.0.0.1,
-      ne_eqb _ _ rest.0.0.0.0.0.1,
-      ne_eqb _ _ rest.0.0.0.0.1,
-      ne_eqb _ _ rest.0.0.0.1,
-      ne_eqb _ _ rest.0.0.1,
-      ne_eqb _ _ rest.0.1,
-      ne_eqb _ _ rest.1,
+      ne_eqb c.args.command 48 (omega arith),
+      ne_eqb c.args.command 49 (omega arith),
+      ne_eqb c.args.command 50 (omega arith),
+      ne_eqb c.args.command 51 (omega arith),
+      ne_eqb c.args.command 52 (omega arith),
+      ne_eqb c.args.command 53 (omega arith),
+      ne_eqb c.args.command 54 (omega arith),
+      ne_eqb c.args.command 60 (omega arith),
+      ne_eqb c.args.command 55 (omega arith),
       c.if-command.false,
     )

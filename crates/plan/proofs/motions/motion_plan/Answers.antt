@@ -1,4 +1,5 @@
 -- `motions::motion_plan` meets its contract: each arm names the command, and past the arms it is none of them.
+use native.Mathlib.Omega.{arith}
 use borrow.Author.Tests.{ne_eqb}
 use Rattle.plan.specs.Motions.{motion_plan}
 use Rattle.plan.proofs.motions.motion_plan.Goals as goal
@@ -50,37 +51,35 @@ returns-in-12 c = simp c.in-12.is
 pub returns-then-command : goal.returns-then-command
 unfolding motion_plan
 returns-then-command c =
-    let rest = c.«??match».rest in
     simp (
-      ne_eqb _ _ rest.0.0.0.0.0.0.0.0.0.0.1,
-      ne_eqb _ _ rest.0.0.0.0.0.0.0.0.0.1,
-      ne_eqb _ _ rest.0.0.0.0.0.0.0.0.1,
-      ne_eqb _ _ rest.0.0.0.0.0.0.0.1,
-      ne_eqb _ _ rest.0.0.0.0.0.0.1,
-      ne_eqb _ _ rest.0.0.0.0.0.1,
-      ne_eqb _ _ rest.0.0.0.0.1,
-      ne_eqb _ _ rest.0.0.0.1,
-      ne_eqb _ _ rest.0.0.1,
-      ne_eqb _ _ rest.0.1,
-      ne_eqb _ _ rest.1,
+      ne_eqb c.args.command 1 (omega arith),
+      ne_eqb c.args.command 2 (omega arith),
+      ne_eqb c.args.command 3 (omega arith),
+      ne_eqb c.args.command 4 (omega arith),
+      ne_eqb c.args.command 5 (omega arith),
+      ne_eqb c.args.command 7 (omega arith),
+      ne_eqb c.args.command 8 (omega arith),
+      ne_eqb c.args.command 9 (omega arith),
+      ne_eqb c.args.command 10 (omega arith),
+      ne_eqb c.args.command 11 (omega arith),
+      ne_eqb c.args.command 12 (omega arith),
       c.if-command.true,
     )
 
 pub returns-else-command : goal.returns-else-command
 unfolding motion_plan
 returns-else-command c =
-    let rest = c.«??match».rest in
     simp (
-      ne_eqb _ _ rest.0.0.0.0.0.0.0.0.0.0.1,
-      ne_eqb _ _ rest.0.0.0.0.0.0.0.0.0.1,
-      ne_eqb _ _ rest.0.0.0.0.0.0.0.0.1,
-      ne_eqb _ _ rest.0.0.0.0.0.0.0.1,
-      ne_eqb _ _ rest.0.0.0.0.0.0.1,
-      ne_eqb _ _ rest.0.0.0.0.0.1,
-      ne_eqb _ _ rest.0.0.0.0.1,
-      ne_eqb _ _ rest.0.0.0.1,
-      ne_eqb _ _ rest.0.0.1,
-      ne_eqb _ _ rest.0.1,
-      ne_eqb _ _ rest.1,
+      ne_eqb c.args.command 1 (omega arith),
+      ne_eqb c.args.command 2 (omega arith),
+      ne_eqb c.args.command 3 (omega arith),
+      ne_eqb c.args.command 4 (omega arith),
+      ne_eqb c.args.command 5 (omega arith),
+      ne_eqb c.args.command 7 (omega arith),
+      ne_eqb c.args.command 8 (omega arith),
+      ne_eqb c.args.command 9 (omega arith),
+      ne_eqb c.args.command 10 (omega arith),
+      ne_eqb c.args.command 11 (omega arith),
+      ne_eqb c.args.command 12 (omega arith),
       c.if-command.false,
     )
