@@ -8,7 +8,7 @@
 --     Outcome, outcome          a message is refused and the room stays, an act is run, or a motion
 --     apply_reported            the number and the counts by the causes
 --     valid_stays, apply_order, counts_packed      statements of specs/Statements
---     unchanged, counts_are, few_changes     the counts between a room and itself, and between the two rooms; they are at most 256
+--     unchanged, counts_are     the counts between a room and itself, and between the two rooms
 use mathlib.Core.Path.{◌≡◌, refl, sym, ap, ap₂, subst, ◌∙◌}
 use mathlib.Core.Bool.{Bool, true, false, ◌||◌, false≢true, and-eq-true_iff}
 use mathlib.Core.List.{List, ◌++◌}
@@ -315,14 +315,8 @@ counts_are m room = go (outcome m room)
     go (did a r) = rw r.answer
     go (moved a r) = rw r.answer
 
--- they are of 256 records and 256 shutters
-pub few_changes : (before after : Room) → ((changes before after).levels ≤ RECORDS) × ((changes before after).openings ≤ SHUTTERS)
-few_changes before after = (
-  differing_at_most modules level_of RECORDS before.modules after.modules,
-  differing_at_most shutters opening_of SHUTTERS before.shutters after.shutters,
-)
-
 pub counts_packed : CountsPacked
 counts_packed before after =
-    let few = few_changes before after in
+    let few : (changes before after).levels ≤ 256 = differing_at_most modules level_of RECORDS before.modules after.modules in
+    let shut : (changes before after).openings ≤ 256 = differing_at_most shutters opening_of SHUTTERS before.shutters after.shutters in
     omega arith

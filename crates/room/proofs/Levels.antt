@@ -1,22 +1,18 @@
--- What a message leaves: an address changes no level and no opening, so a count over an address and a function is the function's.
+-- An address changes no level and no opening, so a count over an address and a function is the function's.
 --
---     shutters_stay       only type 0 changes shutters
---     own_records         a message changes only records of its own house
 --     address_levels      the levels after an address
+--     address_shutters    the shutters after it
 --     address_counts      what differs from the room before it differs from the room after it
-use mathlib.Core.Path.{◌≡◌, refl, sym, ap, ap₂, subst, ◌∙◌}
-use mathlib.Core.Bool.{false, true≢false}
+use mathlib.Core.Path.{◌≡◌, refl, sym, ap, ap₂, subst}
+use mathlib.Core.Bool.{Bool, true, false, true≢false}
 use Prim.Native.Nat.{ℕ, ◌/◌, ◌%◌, ◌<◌}
 use lib.Dec.{eqb}
 use Rattle.ground.proofs.Choices.{pick_both}
 use Rattle.ground.proofs.Records.{differing_before}
-use Rattle.message.specs.declared.Message.{Message}
 use Rattle.message.specs.declared.Message.TheVariants.{Address as Calls}
-use Rattle.plan.specs.Plans.{house_of, type_zero}
 use Rattle.plan.specs.declared.Act.TheVariants.{Address}
 use Rattle.plan.specs.declared.Plan.{Plan}
 use Rattle.plan.specs.declared.Plan.TheVariants.{Run, Move, Refused}
-use Rattle.plan.proofs.PlanLaws.{only_type_zero}
 use Rattle.record.specs.Layout.{RECORDS, UNITS, record_at, house_at, present, modules}
 use Rattle.record.specs.ModuleTable.{acted, step_record, level_of}
 use Rattle.record.specs.declared.Record.{Record}
@@ -25,23 +21,6 @@ use Rattle.module_table.proofs.HouseLaws.{run_record}
 use Rattle.shutter_table.specs.ShutterTable.{openings_changed}
 use Rattle.room.specs.Rooms.{Room, changes, room_after}
 use Rattle.room.proofs.ApplyLaws.{Outcome, stays, did, moved, outcome, modules_size}
-
-pub shutters_stay : (m : Message) (room : Room) → type_zero m ≡ false → (room_after m room).shutters ≡ room.shutters
-shutters_stay m room other = go (outcome m room)
-  where
-    go : Outcome m room → (room_after m room).shutters ≡ room.shutters
-    go (stays why e same) = ap (λ (x : Room). x.shutters) same
-    go (did a r) = rw r.left
-    go (moved a r) = absurd (true≢false (sym (only_type_zero.others m a r.plan) ∙ other))
-
-pub own_records : (m : Message) (room : Room) (i : ℕ) → i < RECORDS → eqb (i / UNITS) (house_of m) ≡ false
-    → record_at (room_after m room).modules i ≡ record_at room.modules i
-own_records m room i below other = go (outcome m room)
-  where
-    go : Outcome m room → record_at (room_after m room).modules i ≡ record_at room.modules i
-    go (stays why e same) = rw same
-    go (did a r) = rw r.left (run_record a (house_of m) room.modules i below (modules_size room r.ok) ∙ rw other)
-    go (moved a r) = rw r.left
 
 -- the act of a plan leaves each level
 abbrev Keeps : Plan → Type 0
@@ -66,8 +45,21 @@ address_levels h u room i below = go (outcome (Calls h u) room)
         (pick_both (λ (x : Record). x.level ≡ (record_at t i).level) (eqb (i / UNITS) h) _ _ (keeps (house_at t h) (i % UNITS) (record_at t i)) refl)
     go (moved a r) = rw r.left
 
+pub address_shutters : (h u : ℕ) (room : Room) → (room_after (Calls h u) room).shutters ≡ room.shutters
+address_shutters h u room = go (outcome (Calls h u) room)
+  where
+    asks_motion : Plan → Bool
+    asks_motion (Run a) = false
+    asks_motion (Move a) = true
+    asks_motion (Refused why) = false
+
+    go : Outcome (Calls h u) room → (room_after (Calls h u) room).shutters ≡ room.shutters
+    go (stays why e same) = ap (λ (x : Room). x.shutters) same
+    go (did a r) = rw r.left
+    go (moved a r) = absurd (true≢false (sym (ap asks_motion r.plan)))
+
 pub address_counts : (h u : ℕ) (room after : Room) → changes (room_after (Calls h u) room) after ≡ changes room after
 address_counts h u room after =
     ap₂ (λ (x y : ℕ). record { levels = x; openings = y })
     (differing_before modules level_of RECORDS (room_after (Calls h u) room).modules room.modules after.modules (address_levels h u room))
-    (ap (λ s. openings_changed s after.shutters) (shutters_stay (Calls h u) room refl))
+    (ap (λ s. openings_changed s after.shutters) (address_shutters h u room))

@@ -1,16 +1,17 @@
--- Laws of the radio route.
+-- Laws of the radio route: what its functions owe at each return.
 --
 --     meant, means_some         the messages of a valid command
 --     two_obeyed, one_obeyed    a radio command's messages applied
---     radio_says, radio_says_lem     what the reader says
---     radio_order               RadioOrder
+--     read_obeyed, not_read     what the reader answered, applied
+--     not_judged                what the route owes where the tables are refused
+--     radio_reported, radio_order       the number and the counts by the causes; RadioOrder
 use mathlib.Core.Path.{◌≡◌, refl, sym, ap, subst, ◌∙◌}
 use mathlib.Core.Bool.{true}
 use mathlib.Core.List.{List, [], ◌∷◌, head-eq_of_cons-eq}
 use Prim.Native.Nat.{ℕ}
 use native.Mathlib.Omega.{arith}
 use lib.ListN.{length}
-use Rattle.ground.specs.Refusals.{judged}
+use Rattle.ground.specs.Refusals.{judged, refuses}
 use Rattle.ground.specs.declared.Refusal.{Refusal}
 use Rattle.ground.proofs.Causes.{judged_map}
 use Rattle.message.specs.declared.Message.{Message}
@@ -22,13 +23,16 @@ use Rattle.radio.specs.declared.RadioMessages.{RadioMessages}
 use Rattle.radio.specs.declared.RadioMessages.TheVariants as messages
 use Rattle.radio.specs.declared.RadioRead.{RadioRead}
 use Rattle.radio.specs.declared.RadioRead.TheVariants as read
-use Rattle.room.specs.Rooms.{Room, changes, room_after, apply_answer, changes_of}
-use Rattle.room.specs.Routes.{room_after_all, radio_coding}
+use Rattle.room.specs.Rooms.{Room, room_ok, changes, room_after, apply_answer, room_report, changes_of}
+use Rattle.room.specs.Routes.{room_after_all, radio_causes, radio_after, radio_answer, radio_report}
 use Rattle.room.specs.Statements.{RadioOrder}
 use Rattle.room.specs.declared.Changes.{Changes}
 use Rattle.room.specs.declared.RoomAnswer.{RoomAnswer}
-use Rattle.room.proofs.ApplyLaws.{counts_are}
-use Rattle.room.proofs.CodeLaws.{Says, Means, Refuses, says}
+use Rattle.room.specs.declared.RoomAnswer.TheVariants.{Done, Refused}
+use Rattle.room.specs.Lent.{room_verdict}
+use Rattle.room.specs.declared.RoomJudged.{RoomJudged}
+use Rattle.room.specs.declared.RoomJudged.TheVariants.{Refused as Faulty}
+use Rattle.room.proofs.ApplyLaws.{valid_parts, verdict_on, by_verdict, counts_are}
 use Rattle.room.proofs.Levels.{address_counts}
 
 -- ---- the messages of a command
@@ -75,16 +79,56 @@ module _ (k : RadioCommand) (room : Room) where
     rw e (after ∙ ap (room_after n) between),
   )
 
--- ---- the reader
+-- ---- a code on a valid room
 
--- what it says by what it answers
-abbrev pub radio_says : RadioRead → Says
-radio_says (read.Command k) = Means (messages_of k)
-radio_says (read.Refused why) = Refuses why
+module _ (code : List ℕ) (room : Room) where
+  -- what is answered and left by what the reader answers
+  abbrev answer_by : RadioRead → RoomAnswer
+  answer_by (read.Command k) = Done (changes room (room_after_all (messages_of k) room))
+  answer_by (read.Refused why) = Refused why
 
-pub radio_says_lem : (code : List ℕ) {r : RadioRead} → r ≡ read_answer code → radio_says r ≡ says radio_coding code
-unfolding read_answer
-radio_says_lem code e = ap radio_says e ∙ judged_map radio_says (read.Command (command_of code)) read.Refused (read_causes code)
+  abbrev room_by : RadioRead → Room
+  room_by (read.Command k) = room_after_all (messages_of k) room
+  room_by (read.Refused why) = room
+
+  -- what `radio_route` owes
+  abbrev Right : RoomAnswer → Room → Type 0
+  Right a left = (a ≡ radio_answer code room) × (left ≡ radio_after code room)
+
+  module _ (ok : room_ok room ≡ true) {r : RadioRead} (reads : r ≡ read_answer code) where
+    by_reader : (radio_answer code room ≡ answer_by r) × (radio_after code room ≡ room_by r)
+    unfolding radio_answer radio_after read_answer judged
+    by_reader =
+        let k = read.Command (command_of code) in
+        let v = valid_parts room ok in
+        rw (v.modules_long_lem, v.shutters_long_lem, v.modules_valid_lem, v.shutters_valid_lem, reads)
+        (sym (judged_map answer_by k read.Refused (read_causes code)), sym (judged_map room_by k read.Refused (read_causes code)))
+
+    pub read_obeyed : (k : RadioCommand) (left : Room) (c : Changes) → r ≡ read.Command k → Owed k room c left → Right (Done c) left
+    read_obeyed k left c is did = (
+      ap Done (did.0 ∙ ap (changes room) did.1) ∙ sym (by_reader.0 ∙ ap answer_by is),
+      did.1 ∙ sym (by_reader.1 ∙ ap room_by is),
+    )
+
+    pub not_read : (why : Refusal) → r ≡ read.Refused why → Right (Refused why) room
+    not_read why is = (sym (by_reader.0 ∙ ap answer_by is), sym (by_reader.1 ∙ ap room_by is))
+
+pub radio_reported : (code : List ℕ) (room : Room) {r : RoomAnswer} → r ≡ radio_answer code room
+    → room_report r ≡ radio_report code room
+unfolding radio_answer
+radio_reported code room e = ap room_report e ∙ judged_map room_report _ _ (radio_causes code room)
+
+-- what the route owes where the tables are refused
+pub not_judged : (code : List ℕ) (room : Room) {v : RoomJudged} → v ≡ room_verdict room → (why : Refusal) → v ≡ Faulty why
+    → (Refused why ≡ radio_answer code room) × ((room_report (Refused why) ≡ radio_report code room) × (room ≡ radio_after code room))
+unfolding radio_answer radio_after
+not_judged code room e why is = (
+  by _ Refused,
+  (by _ refuses, by _ (λ w. room)),
+)
+  where
+    by : {A : Type 0} (done : A) (refused : Refusal → A) → refused why ≡ judged (radio_causes code room) done refused
+    by done refused = sym (by_verdict done refused (read_causes code) room e ∙ ap (verdict_on done refused (read_causes code)) is)
 
 pub radio_order : RadioOrder
 radio_order code room = refl

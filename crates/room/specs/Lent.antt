@@ -1,25 +1,22 @@
 -- What the private routines of a room promise beside the definitions of Rooms, Routes and Mains: both tables judged, one table's answer as the room's, a byte
--- of each record kept, one message of a payload, and half-cycles taken stretch after stretch, up to the first that gives MESSAGE.
+-- of each record kept, and half-cycles taken stretch after stretch, up to the first that gives MESSAGE.
 use Rattle.std.specs.Prelude.{ℕ, ◌+◌, ◌-◌, ◌*◌, ◌≤◌, ◌≡◌, Bool, true, false, length, get_or, drop, replicate}
 use mathlib.Core.List.{List, ◌++◌, flat_map}
 use Rattle.std.proofs.lemmas.List.Edits.{sets}
 use Rattle.ground.specs.Refusals.{judged}
 use Rattle.ground.specs.declared.CountAnswer.{CountAnswer}
 use Rattle.ground.specs.declared.CountAnswer.TheVariants.{Done, Refused}
-use Rattle.lynx_net.specs.declared.payload.MessageAt.{MessageAt}
-use Rattle.lynx_net.specs.declared.payload.MessageAt.TheVariants.{Message as At, Beyond}
 use Rattle.receiver.specs.Receivers.{receiver_ok}
 use Rattle.receiver.specs.Hearing.{events_of, receiver_after}
 use Rattle.receiver.specs.Bytes.{event_bytes}
 use Rattle.receiver.specs.declared.Given.{Given}
 use Rattle.receiver.specs.declared.Given.TheVariants.{No, Yes}
 use Rattle.receiver.specs.declared.Receiver.{Receiver}
-use Rattle.room.specs.declared.Changes.{Changes}
 use Rattle.room.specs.declared.RoomAnswer.{RoomAnswer}
 use Rattle.room.specs.declared.RoomAnswer.TheVariants.{Done as Told, Refused as NotTold}
 use Rattle.room.specs.declared.RoomJudged.{RoomJudged}
 use Rattle.room.specs.declared.RoomJudged.TheVariants.{Fine, Refused as Faulty}
-use Rattle.room.specs.Rooms.{Room, room_ok, no_changes, room_after, apply_answer, changes_of}
+use Rattle.room.specs.Rooms.{Room, room_ok}
 use Rattle.room.specs.Routes.{room_causes}
 use Rattle.room.specs.Mains.{answer_given, answer_bytes, room_heard, answers_heard}
 
@@ -39,16 +36,6 @@ levels_answer (Refused why) = NotTold why
 abbrev pub openings_answer : CountAnswer → RoomAnswer
 openings_answer (Done n) = Told (record { levels = 0; openings = n })
 openings_answer (Refused why) = NotTold why
-
--- ---- one message of a payload, if there is one at that place
-
-abbrev pub room_at : MessageAt → Room → Room
-room_at (At m) room = room_after m room
-room_at Beyond room = room
-
-abbrev pub changes_at : MessageAt → Room → Changes
-changes_at (At m) room = changes_of (apply_answer m room)
-changes_at Beyond room = no_changes
 
 -- ---- a stretch of half-cycles
 

@@ -50,10 +50,6 @@ changes before after =
 abbrev pub no_changes : Changes
 no_changes = record { levels = 0; openings = 0 }
 
--- counts of modules and of shutters, added up each
-abbrev pub added : Changes → Changes → Changes
-added c d = record { levels = c.levels + d.levels; openings = c.openings + d.openings }
-
 -- 1, 2, 3, 4: "NOT CARRIED: as said, by the table only"; "16 .. after 1, 17 .. after 3, 18 OPENING last"
 abbrev pub apply_causes : Message → Room → List Cause
 apply_causes m room =

@@ -1,10 +1,10 @@
--- What holds of every room: proofs/ApplyLaws.antt, proofs/RadioLaws.antt, proofs/PacketLaws.antt, proofs/MainsLaws.antt.
+-- What holds of every room: proofs/ApplyLaws.antt, proofs/RadioLaws.antt, proofs/MainsLaws.antt.
 use Rattle.std.specs.Prelude.{ℕ, ◌+◌, ◌*◌, ◌^◌, ◌≡◌, true, List, [], ◌∷◌, map}
 use Rattle.ground.specs.Refusals.{cause_number}
 use Rattle.message.specs.declared.Message.{Message}
 use Rattle.wire.specs.Packed.{packed}
 use Rattle.room.specs.Rooms.{Room, room_ok, changes, apply_causes, room_after, tallied}
-use Rattle.room.specs.Routes.{radio_causes, packet_causes}
+use Rattle.room.specs.Routes.{radio_causes}
 use Rattle.room.specs.Mains.{Lending, mains_causes}
 use Rattle.room.specs.declared.RoomAnswer.TheVariants.{Done}
 
@@ -18,9 +18,6 @@ ApplyOrder = (m : Message) (room : Room) → map cause_number (apply_causes m ro
 
 abbrev pub RadioOrder : Type 0
 RadioOrder = (code : List ℕ) (room : Room) → map cause_number (radio_causes code room) ≡ 1 ∷ 16 ∷ 3 ∷ 17 ∷ 12 ∷ 13 ∷ 14 ∷ []
-
-abbrev pub PacketOrder : Type 0
-PacketOrder = (packet : List ℕ) (room : Room) → map cause_number (packet_causes packet room) ≡ 1 ∷ 16 ∷ 3 ∷ 17 ∷ 19 ∷ 20 ∷ 21 ∷ 22 ∷ []
 
 abbrev pub MainsOrder : Type 0
 MainsOrder = (l : Lending) (room : Room) → map cause_number (mains_causes l room) ≡ 1 ∷ 16 ∷ 3 ∷ 17 ∷ 6 ∷ 9 ∷ 9 ∷ []

@@ -1,7 +1,6 @@
 // A room: its lent module table and shutter table, judged once, and a message applied to them.
 
 #![tactic(auto)]
-
 ghost use Rattle.std.specs.Prelude.{◌≡◌, true};
 ghost use Rattle.room.specs.Rooms.{room_of, room_ok, room_after, apply_answer, apply_report, room_report, tallied};
 ghost use Rattle.room.specs.Lent.{room_verdict, levels_answer, openings_answer};
@@ -13,7 +12,6 @@ use record::TABLE_BYTES;
 use shutter_table::SHUTTER_TABLE_BYTES;
 
 pub mod mains;
-pub mod packets;
 pub mod routes;
 
 // What has changed in a room.

@@ -1,5 +1,4 @@
-// The radio route: four bytes through the reader, and the messages that they mean applied to the room. The mains route is in mains.rt, the
-// route by packets in packets.rt.
+// The radio route: four bytes through the reader, and the messages that they mean applied to the room. The mains route is in mains.rt.
 ghost use Rattle.std.specs.Prelude.{◌≡◌, true};
 ghost use Rattle.radio.specs.Codes.{command_ok};
 ghost use Rattle.radio.specs.Answers.{messages_of};
@@ -10,7 +9,7 @@ use crate::{Changes, RoomAnswer, RoomJudged, apply_valid, judge};
 use radio::{RadioCommand, RadioMessages, RadioRead, messages, read};
 
 // What has changed, by the answer; nothing where it is a refusal.
-pub(crate) fn changes_of(a: RoomAnswer) -> Changes
+fn changes_of(a: RoomAnswer) -> Changes
     ensures { result ≡ changes_of a }
 {
     match a {

@@ -42,7 +42,6 @@ use Rattle.radio.specs.declared.RadioRead.{RadioRead}
 use Rattle.radio.specs.declared.RadioRead.TheVariants as read
 use Rattle.radio.proofs.AnswerLaws.{read_given}
 use Rattle.room_laws.specs.Demand2.{radio, meant_by, Sending, on_line, lending, to_fresh, Spaced, AllOk, BurstsAsCodes}
-use Rattle.room.specs.Routes.{radio_coding}
 use Rattle.room.specs.Mains.{lent_causes}
 use Rattle.room_laws.proofs.Carried.{demand_2}
 
@@ -124,13 +123,13 @@ abbrev meant_if : RadioRead → List Message
 meant_if (read.Command k) = messages_of k
 meant_if (read.Refused why) = []
 
-code_means : (k : RadioCommand) → command_ok k ≡ true → meant_by radio_coding (four_bytes k) ≡ messages_of k
+code_means : (k : RadioCommand) → command_ok k ≡ true → meant_by (four_bytes k) ≡ messages_of k
 unfolding meant_by read_answer
 code_means k ok =
     let code = four_bytes k in
     sym (judged_map meant_if (read.Command (command_of code)) read.Refused (read_causes code)) ∙ ap meant_if (read_given k ok)
 
-pub codes_carry : (ks : List RadioCommand) → AllOk ks → flat_map (meant_by radio_coding) (map four_bytes ks) ≡ flat_map messages_of ks
+pub codes_carry : (ks : List RadioCommand) → AllOk ks → flat_map meant_by (map four_bytes ks) ≡ flat_map messages_of ks
 unfolding flat_map
 codes_carry [] ok = refl
 codes_carry (k ∷ ks) ok = ap₂ ◌++◌ (code_means k ok.0) (codes_carry ks ok.1)

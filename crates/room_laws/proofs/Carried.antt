@@ -1,21 +1,24 @@
 -- A route leaves what its messages leave: call by call where the room is valid, and where it is not every call is refused.
 --
+--     count_all                  the counts of messages applied one after the other
 --     heard_all                 what events leave of a room is what their messages leave
 --     carried                   what a route leaves and counts, by its messages
 --     demand_2, no_more         the theorems of specs/Demand2.antt
-use mathlib.Core.Path.{◌≡◌, refl, sym, ap, ap₂, subst, ◌∙◌}
+use mathlib.Core.Path.{◌≡◌, refl, sym, ap, ap₂, ◌∙◌}
 use mathlib.Core.Bool.{Bool, true, false, true≢false}
 use mathlib.Core.List.{List, [], ◌∷◌, ◌++◌, flat_map}
 use Prim.Native.Nat.{ℕ, ◌+◌, ◌*◌, ◌/◌, ◌%◌, ◌^◌, ◌≤◌, ◌<◌}
 use native.Mathlib.Omega.{arith}
-use native.Mathlib.Nat.{add-zero, mod-eq_of_lt, div-eq_of_lt, div-add-mod', div-div-eq-div-mul}
+use native.Mathlib.Nat.{zero-add, add-zero, add_assoc, mod-eq_of_lt, div-eq_of_lt, div-add-mod', div-div-eq-div-mul}
 use lib.Dec.{leb}
 use lib.ListN.{length, drop}
-use Rattle.ground.specs.Refusals.{refusal_number, Cause, judged, number_given}
+use Rattle.ground.specs.Refusals.{refusal_number, Cause, judged}
 use Rattle.ground.specs.declared.Refusal.{Refusal}
 use Rattle.ground.specs.declared.Refusal.TheVariants as refusal
 use Rattle.ground.proofs.Causes.{judged_map, judged_append, judged_same, judged_holds, nothing_refused}
+use Rattle.message.specs.declared.Function.{Function}
 use Rattle.message.specs.declared.Message.{Message}
+use Rattle.message.specs.declared.Message.TheVariants.{Address, Function as Command}
 use Rattle.receiver.specs.declared.Event.{Event}
 use Rattle.receiver.specs.declared.Given.{Given}
 use Rattle.receiver.specs.declared.Given.TheVariants.{No, Yes}
@@ -25,23 +28,39 @@ use Rattle.wire.specs.Packed.{packed}
 use Rattle.receiver.specs.Bytes.{holds_receiver}
 use Rattle.receiver.proofs.RunLaws.{heard_length}
 use Rattle.radio.specs.Codes.{command_of}
-use Rattle.lynx_net.specs.Packets.{payload_in}
-use Rattle.lynx_net.specs.Lists.{held_in}
-use Rattle.lynx_net.proofs.ListLaws.{listed_held}
-use Rattle.lynx_net.proofs.PacketLaws.{causes_passed}
-use Rattle.room.specs.Rooms.{Room, no_changes, added, room_ok, changes, room_after, apply_answer, changes_of, tallied}
-use Rattle.room.specs.Routes.{room_after_all, room_causes, Coding, code_after, code_answer, radio_coding, packet_coding}
+use Rattle.radio.specs.Answers.{read_causes, messages_of}
+use Rattle.radio.specs.declared.RadioCommand.{RadioCommand}
+use Rattle.radio.specs.declared.RadioCommand.TheVariants.{On, Off, Bright, Dim}
+use Rattle.room.specs.Rooms.{Room, no_changes, room_ok, changes, room_after, apply_answer, changes_of, tallied}
+use Rattle.room.specs.Routes.{room_after_all, room_causes, radio_after, radio_answer}
 use Rattle.room.specs.Mains.{room_given, answer_given, answer_bytes, room_heard, answers_heard, Lending, heard, lent_causes, mains_after}
 use Rattle.room.specs.declared.Changes.{Changes}
 use Rattle.room.specs.declared.RoomAnswer.TheVariants.{Done, Refused}
-use Rattle.room.proofs.ApplyLaws.{Outcome, stays, did, moved, outcome, Valid, valid_parts, room_fine, fine_room, valid_stays}
-use Rattle.room.proofs.Counting.{counts_same, none_added, added_assoc, count_all, Exact, exact_command, exact_listed}
-use Rattle.room_laws.specs.Demand2.{Route, radio, packets, mains, meant_by, carries, codes_leave, leaves, codes_count, number_in}
+use Rattle.room.proofs.ApplyLaws.{Outcome, stays, did, moved, outcome, Valid, valid_parts, room_fine, fine_room, valid_stays, unchanged, counts_are}
+use Rattle.room.proofs.Levels.{address_counts}
+use Rattle.room_laws.specs.Demand2.{Route, radio, mains, meant_by, carries, radio_leaves, leaves, added, radio_counts, number_in}
 use Rattle.room_laws.specs.Demand2.{changes_in, counts_in, counts, Demand2, NoMoreThanMessages}
 use Rattle.room_laws.specs.Statements.{AllStayValid}
 use Rattle.room_laws.proofs.Theorems.{count_at_most_256}
 
 -- ---- messages applied one after the other
+
+counts_same : {a b c d : ℕ} → a ≡ b → c ≡ d → ◌≡◌ {A = Changes} (record { levels = a; openings = c }) (record { levels = b; openings = d })
+counts_same p q = rw (p, q)
+
+unfoldable pub count_all : List Message → Room → Changes
+count_all [] room = no_changes
+count_all (m ∷ ms) room = added (changes_of (apply_answer m room)) (count_all ms (room_after m room))
+
+-- counts added up
+none_added : (c : Changes) → added no_changes c ≡ c
+none_added c = counts_same (zero-add c.levels) (zero-add c.openings)
+
+added_none : (c : Changes) → added c no_changes ≡ c
+added_none c = counts_same (add-zero c.levels) (add-zero c.openings)
+
+added_assoc : (c d e : Changes) → added (added c d) e ≡ added c (added d e)
+added_assoc c d e = counts_same (add_assoc c.levels d.levels e.levels) (add_assoc c.openings d.openings e.openings)
 
 -- of a room, what is left and counted is what messages leave and count
 abbrev As : List Message → Room → Room → Changes → Type 0
@@ -80,6 +99,27 @@ all_refused (m ∷ ms) room broken =
 
 -- ---- one code
 
+-- an address changes no level and no opening, so what is counted over an address and a function is the function's count
+count_two : (h u : ℕ) (f : Function) (room : Room)
+    → changes room (room_after_all (Address h u ∷ Command h f ∷ []) room) ≡ count_all (Address h u ∷ Command h f ∷ []) room
+unfolding room_after_all count_all
+count_two h u f room =
+    let s = room_after (Address h u) room in
+    let v = room_after (Command h f) s in
+    let first : changes_of (apply_answer (Address h u) room) ≡ no_changes = counts_are (Address h u) room ∙ sym (address_counts h u room s) ∙ unchanged s in
+    let second : changes_of (apply_answer (Command h f) s) ≡ changes room v = counts_are (Command h f) s ∙ address_counts h u room v in
+    rw (first, second) (sym (none_added (added (changes room v) no_changes) ∙ added_none (changes room v)))
+
+count_one : (m : Message) (room : Room) → changes room (room_after_all (m ∷ []) room) ≡ count_all (m ∷ []) room
+unfolding room_after_all count_all
+count_one m room = sym (added_none (changes_of (apply_answer m room)) ∙ counts_are m room)
+
+count_command : (k : RadioCommand) (room : Room) → changes room (room_after_all (messages_of k) room) ≡ count_all (messages_of k) room
+count_command (On h u) room = count_two h u _ room
+count_command (Off h u) room = count_two h u _ room
+count_command (Bright h) room = count_one _ room
+count_command (Dim h) room = count_one _ room
+
 -- a valid room is judged by what comes next
 past_room : {A : Type 0} (room : Room) → room_ok room ≡ true → (cs : List Cause) (done : A) (refused : Refusal → A)
     → judged (room_causes room ++ cs) done refused ≡ judged cs done refused
@@ -93,55 +133,42 @@ broken_room room broken cs done same =
     ∙ judged_same (λ why. same) (room_causes room) (λ none. absurd (true≢false (sym (fine_room room none) ∙ broken)))
     ∙ judged_holds (λ y. y ≡ same) same (λ why. same) (room_causes room) (λ none. refl) (λ why. refl)
 
--- the counts of a coding's messages add up to what differs before and after
-abbrev Counted : Coding → Type 0
-Counted K = (code : List ℕ) → number_given (K.causes code) ≡ 0 → Exact (K.means code)
+code_carried : (code : List ℕ) (room : Room) → room_ok room ≡ true → As (meant_by code) room (radio_after code room) (changes_of (radio_answer code room))
+unfolding radio_after radio_answer meant_by room_after_all count_all
+code_carried code room ok =
+    let cs = read_causes code in
+    let k = command_of code in
+    let left : room_after_all (meant_by code) room ≡ judged cs (room_after_all (messages_of k) room) (λ why. room) =
+    judged_map (λ (ms : List Message). room_after_all ms room) (messages_of k) (λ why. []) cs in
+    let count : count_all (meant_by code) room ≡ judged cs (count_all (messages_of k) room) (λ why. no_changes) =
+    judged_map (λ (ms : List Message). count_all ms room) (messages_of k) (λ why. []) cs in
+    let told : changes_of (radio_answer code room) ≡ judged cs (changes room (room_after_all (messages_of k) room)) (λ why. no_changes) =
+    ap changes_of (past_room room ok cs _ _) ∙ judged_map changes_of (Done (changes room (room_after_all (messages_of k) room))) Refused cs in
+    (past_room room ok cs _ _ ∙ sym left, told ∙ ap (λ (n : Changes). judged cs n (λ why. no_changes)) (count_command k room) ∙ sym count)
 
-module _ (K : Coding) where
-  code_carried : Counted K → (code : List ℕ) (room : Room) → room_ok room ≡ true
-      → As (meant_by K code) room (code_after K code room) (changes_of (code_answer K code room))
-  unfolding code_after code_answer meant_by room_after_all count_all
-  code_carried exact code room ok =
-      let cs = K.causes code in
-      let ms = K.means code in
-      let left : room_after_all (meant_by K code) room ≡ judged cs (room_after_all ms room) (λ why. room) =
-      judged_map (λ (l : List Message). room_after_all l room) ms (λ why. []) cs in
-      let count : count_all (meant_by K code) room ≡ judged cs (count_all ms room) (λ why. no_changes) =
-      judged_map (λ (l : List Message). count_all l room) ms (λ why. []) cs in
-      let told : changes_of (code_answer K code room) ≡ judged cs (changes room (room_after_all ms room)) (λ why. no_changes) =
-      ap changes_of (past_room room ok cs _ _) ∙ judged_map changes_of (Done (changes room (room_after_all ms room))) Refused cs in
-      (past_room room ok cs _ _ ∙ sym left, told ∙ judged_same (λ why. no_changes) cs (λ none. exact code none room) ∙ sym count)
+code_refused : (code : List ℕ) (room : Room) → room_ok room ≡ false → (radio_after code room ≡ room) × (changes_of (radio_answer code room) ≡ no_changes)
+unfolding radio_after radio_answer
+code_refused code room broken = (
+  broken_room room broken (read_causes code) _ room,
+  judged_map changes_of _ Refused (room_causes room ++ read_causes code) ∙ broken_room room broken (read_causes code) _ no_changes,
+)
 
-  code_refused : (code : List ℕ) (room : Room) → room_ok room ≡ false
-      → (code_after K code room ≡ room) × (changes_of (code_answer K code room) ≡ no_changes)
-  unfolding code_after code_answer
-  code_refused code room broken = (
-    broken_room room broken (K.causes code) _ room,
-    judged_map changes_of _ Refused (room_causes room ++ K.causes code) ∙ broken_room room broken (K.causes code) _ no_changes,
-  )
+-- ---- a list of codes
 
-  -- a list of codes
-  codes_carried : Counted K → (codes : List (List ℕ)) (room : Room) → room_ok room ≡ true
-      → As (flat_map (meant_by K) codes) room (codes_leave K codes room) (codes_count K codes room)
-  unfolding codes_leave codes_count flat_map room_after_all count_all
-  codes_carried exact [] room ok = (refl, refl)
-  codes_carried exact (code ∷ codes) room ok =
-      let one = code_carried exact code room ok in
-      let more = codes_carried exact codes (room_after_all (meant_by K code) room) (all_stay (meant_by K code) room ok) in
-      rw (one.0, one.1) (as_append (meant_by K code) (flat_map (meant_by K) codes) room _ _ more)
+radio_carried : (codes : List (List ℕ)) (room : Room) → room_ok room ≡ true → As (flat_map meant_by codes) room (radio_leaves codes room) (radio_counts codes room)
+unfolding radio_leaves radio_counts flat_map room_after_all count_all
+radio_carried [] room ok = (refl, refl)
+radio_carried (code ∷ codes) room ok =
+    let one = code_carried code room ok in
+    let more = radio_carried codes (room_after_all (meant_by code) room) (all_stay (meant_by code) room ok) in
+    rw (one.0, one.1) (as_append (meant_by code) (flat_map meant_by codes) room _ _ more)
 
-  codes_refused : (codes : List (List ℕ)) (room : Room) → room_ok room ≡ false → (codes_leave K codes room ≡ room) × (codes_count K codes room ≡ no_changes)
-  unfolding codes_leave codes_count
-  codes_refused [] room broken = (refl, refl)
-  codes_refused (code ∷ codes) room broken =
-      let one = code_refused code room broken in
-      rw (one.0, one.1, none_added (codes_count K codes room)) (codes_refused codes room broken)
-
-radio_counted : Counted radio_coding
-radio_counted code none = exact_command (command_of code)
-
-packets_counted : Counted packet_coding
-packets_counted packet none = subst Exact (listed_held (payload_in packet) (causes_passed packet none)) (exact_listed (held_in (payload_in packet)))
+radio_refused : (codes : List (List ℕ)) (room : Room) → room_ok room ≡ false → (radio_leaves codes room ≡ room) × (radio_counts codes room ≡ no_changes)
+unfolding radio_leaves radio_counts
+radio_refused [] room broken = (refl, refl)
+radio_refused (code ∷ codes) room broken =
+    let one = code_refused code room broken in
+    rw (one.0, one.1, none_added (radio_counts codes room)) (radio_refused codes room broken)
 
 -- ---- events
 
@@ -155,7 +182,7 @@ heard_all (e ∷ es) room = go (given_by e) (heard_all es)
     go (Yes m) later = later (room_after m room)
 
 -- the counts in an answer's eight bytes
-small_number : (why : Refusal) → refusal_number why ≤ 22
+small_number : (why : Refusal) → refusal_number why ≤ 18
 small_number refusal.Table = omega arith
 small_number refusal.Message = omega arith
 small_number refusal.Record = omega arith
@@ -172,10 +199,6 @@ small_number refusal.Fault = omega arith
 small_number refusal.ShutterTable = omega arith
 small_number refusal.ShutterRecord = omega arith
 small_number refusal.Opening = omega arith
-small_number refusal.PacketLength = omega arith
-small_number refusal.Check = omega arith
-small_number refusal.Network = omega arith
-small_number refusal.Payload = omega arith
 
 -- a number below 2 ^ 40 in eight bytes, and back
 above : (x d : ℕ) → x < 2 ^ 40 → 2 ^ 40 ≤ d → x / d ≡ 0
@@ -203,8 +226,8 @@ number_back x small =
     )
     (simp add-zero all)
 
--- counts of at most 256 and a number of at most 22, as one number and back
-counted_back : (n m k : ℕ) → n ≤ 256 → m ≤ 256 → k ≤ 22
+-- counts of at most 256 and a number of at most 18, as one number and back
+counted_back : (n m k : ℕ) → n ≤ 256 → m ≤ 256 → k ≤ 18
     → changes_in (answer_bytes ((n % 2 ^ 16 + m % 2 ^ 16 * 2 ^ 16) % 2 ^ 56 * 256 + k)) ≡ record { levels = n; openings = m }
 counted_back n m k few shut small =
     let low : (n % 2 ^ 16 + m % 2 ^ 16 * 2 ^ 16) % 2 ^ 56 * 256 + k ≡ n * 2 ^ 8 + m * 2 ^ 24 + k = omega arith in
@@ -274,13 +297,11 @@ module _ (l : Lending) (room : Room) where
 -- ---- a route
 
 route_refused : (a : Route) (room : Room) → room_ok room ≡ false → (leaves a room ≡ room) × (counts a room ≡ no_changes)
-route_refused (radio codes) room broken = codes_refused radio_coding codes room broken
-route_refused (packets ps) room broken = codes_refused packet_coding ps room broken
+route_refused (radio codes) room broken = radio_refused codes room broken
 route_refused (mains l) room broken = mains_refused l room broken
 
 route_carried : (a : Route) (room : Room) → room_ok room ≡ true → As (carries a) room (leaves a room) (counts a room)
-route_carried (radio codes) room ok = codes_carried radio_coding radio_counted codes room ok
-route_carried (packets ps) room ok = codes_carried packet_coding packets_counted ps room ok
+route_carried (radio codes) room ok = radio_carried codes room ok
 route_carried (mains l) room ok = mains_carried l room ok
 
 pub carried : (a : Route) (room : Room) → (leaves a room ≡ room_after_all (carries a) room) × (counts a room ≡ count_all (carries a) room)

@@ -2,7 +2,6 @@ pub mod ReachLaws
 pub mod Theorems
 pub mod Carried
 pub mod Bursts
-pub mod Packets
 pub mod Press
 pub mod Slices
 pub mod Limits

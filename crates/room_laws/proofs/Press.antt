@@ -1,38 +1,36 @@
--- A press: one radio command, its two bursts, and one packet; the unit that is addressed is lit by On and darkened by Off, and one that is let go is not.
+-- A press: one radio command and its two bursts; the unit that is addressed is lit by On and darkened by Off, and one that is let go is not.
 --
 --     done              a message carried out in a valid room
 --     press, recall     the theorems of specs/Press.antt
-use mathlib.Core.Path.{◌≡◌, refl, sym, ap, ◌∙◌}
+use mathlib.Core.Path.{◌≡◌, refl, ap, ◌∙◌}
 use mathlib.Core.Bool.{Bool, true, false, not, ◌&&◌}
-use mathlib.Core.List.{List, [], ◌∷◌, ◌++◌, flat_map}
+use mathlib.Core.List.{List, [], ◌∷◌, flat_map}
 use Prim.Native.Nat.{ℕ, ◌+◌, ◌*◌, ◌<◌}
 use native.Mathlib.Omega.{arith}
 use borrow.Author.Tests.{eq-eqb, le-leb}
 use lib.Dec.{eqb, leb}
-use Rattle.ground.specs.Records.{all_below}
+use Rattle.ground.specs.Refusals.{judged}
 use Rattle.ground.proofs.Choices.{both}
 use Rattle.message.specs.Messages.{message_ok}
 use Rattle.message.specs.declared.Function.TheVariants.{On, Off}
 use Rattle.message.specs.declared.Message.{Message}
 use Rattle.message.specs.declared.Message.TheVariants.{Address as Calls, Function as Command}
 use Rattle.radio.specs.declared.RadioCommand.TheVariants.{On as RadioOn}
-use Rattle.lynx_net.specs.Payloads.{CLOSE, form_of, closed_units, messages_of}
 use Rattle.plan.specs.Plans.{plan_of, carried, fits}
 use Rattle.plan.specs.declared.Act.TheVariants.{Address, Obey}
 use Rattle.record.specs.Layout.{UNITS, record_at, house_at, present}
 use Rattle.record.specs.ModuleTable.{step_record}
 use Rattle.record.specs.declared.Record.{Record}
 use Rattle.record.specs.declared.House.{House}
-use Rattle.room.specs.Rooms.{Room, room_ok, room_after}
+use Rattle.room.specs.Rooms.{Room, room_ok, room_after, apply_answer, room_report}
 use Rattle.room.specs.Routes.{room_after_all}
-use Rattle.room.proofs.ApplyLaws.{valid_stays}
+use Rattle.room.proofs.ApplyLaws.{valid_parts, valid_stays}
 use Rattle.room_laws.specs.Statements.{ByPlan}
 use Rattle.room_laws.specs.Demand2.{leaves, after}
-use Rattle.room_laws.specs.Press.{by_radio, by_packet, darkens, Press, Recall}
-use Rattle.room_laws.proofs.Theorems.{record_by_record, none_applies, only_type_zero_moves}
+use Rattle.room_laws.specs.Press.{by_radio, darkens, Press, Recall}
+use Rattle.room_laws.proofs.Theorems.{record_by_record, only_type_zero_moves}
 use Rattle.room_laws.proofs.Carried.{no_more}
 use Rattle.room_laws.proofs.Bursts.{codes_carry, bursts_as_codes}
-use Rattle.room_laws.proofs.Packets.{packet_means}
 
 -- ---- the record of a unit
 
@@ -74,7 +72,12 @@ stays_as_it_is x y e = rw e (go (eqb x 0))
 
 -- a message of the house, carried out in a valid room
 pub done : (m : Message) (room : Room) → room_ok room ≡ true → message_ok m ≡ true → carried m ≡ true → fits (plan_of m) ≡ true → ByPlan m room
-done m room ok good runs fit = record_by_record m room (none_applies m room ok good runs fit)
+unfolding apply_answer judged
+done m room ok good runs fit =
+    let v = valid_parts room ok in
+    let none : (room_report (apply_answer m room)).number ≡ 0 =
+    simp (v.modules_long_lem, v.shutters_long_lem, good, v.modules_valid_lem, v.shutters_valid_lem, runs, fit) in
+    record_by_record m room none
 
 -- the room with unit u addressed, and then lit
 unfoldable called : ℕ → ℕ → Room → Room
@@ -136,13 +139,6 @@ unfolding flat_map room_after_all lit called
 by_radio-left h u room house unit =
     no_more (by_radio h u) room ∙ ap (λ (ms : List Message). room_after_all ms room) (codes_carry (RadioOn h u ∷ []) (both house unit, tt))
 
--- by a packet, the same
-by_packet-left : (node sequence h u : ℕ) (room : Room) → leb h 15 ≡ true → leb u 15 ≡ true → leaves (by_packet node sequence h u) room ≡ lit h u room
-unfolding flat_map room_after_all lit called form_of closed_units all_below messages_of
-by_packet-left node sequence h u room house unit =
-    no_more (by_packet node sequence h u) room
-    ∙ ap (λ (ms : List Message). room_after_all (ms ++ []) room) (packet_means node sequence (0x12 ∷ h ∷ u ∷ CLOSE ∷ []) (rw (house, unit)))
-
 -- and both its messages leave the shutters
 shutters_kept : (h u : ℕ) (room : Room) → (lit h u room).shutters ≡ room.shutters
 unfolding lit called
@@ -158,7 +154,6 @@ press h u z w room hh hu hz hw =
     let left = by_radio-left h u room house unit in
     record {
       same_room = same;
-      same_by_packet = λ node sequence. by_packet-left node sequence h u room house unit ∙ sym left;
       no_shutter = rw left (shutters_kept h u room);
       same_lamps = λ i. ap (λ (x : Room). darkens h x i) same;
       pressed = λ ok here. rw left (darkened h u room house unit ok (omega arith) here);

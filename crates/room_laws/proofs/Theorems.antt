@@ -8,14 +8,12 @@ use borrow.Author.Tests.{eqb-false, eq-eqb}
 use lib.Dec.{eqb, leb}
 use lib.ListN.{get_or}
 use Rattle.ground.specs.Choice.{pick}
-use Rattle.ground.specs.Refusals.{judged}
 use Rattle.ground.proofs.Choices.{pick_both}
 use Rattle.ground.proofs.Causes.{some_number}
-use Rattle.message.specs.Messages.{message_ok}
 use Rattle.message.specs.declared.Message.{Message}
 use Rattle.message.specs.declared.Message.TheVariants.{Address as Calls, Function as Command, Extended}
 use Rattle.plan.specs.Motions.{motion_plan}
-use Rattle.plan.specs.Plans.{bit, level_in, group_in, groups_in, house_of, type_zero, for_shutters, plan_of, carried, fits, reference_in, extended_plan}
+use Rattle.plan.specs.Plans.{bit, level_in, group_in, groups_in, house_of, type_zero, for_shutters, plan_of, reference_in, extended_plan}
 use Rattle.plan.specs.declared.Act.{Act}
 use Rattle.plan.specs.declared.Act.TheVariants.{Nothing, Join, Level, JoinAt, UnitsOn, UnitsOff, Leave, LeaveHouse, Group}
 use Rattle.plan.specs.declared.GroupAct.{GroupAct}
@@ -29,12 +27,11 @@ use Rattle.record.specs.Layout.{RECORD_BYTES, UNITS, HOUSES, RECORDS, HEARD_AT, 
 use Rattle.record.specs.ModuleTable.{acted, step_record, heard_after, run_act}
 use Rattle.module_table.proofs.TableLaws.{modules_laid, changed_none}
 use Rattle.module_table.proofs.HouseLaws.{run_length, run_record, run-byte, run_house, run_house_other}
-use Rattle.module_table.proofs.Runs.{run_changed}
+use Rattle.module_table.proofs.Runs.{changed_at_most, run_changed}
 use Rattle.shutter.specs.Shutters.{of_house, of_unit, reaches}
-use Rattle.shutter_table.proofs.TableLaws.{each_shutter, own_shutters_only}
-use Rattle.room.specs.Rooms.{Room, room_ok, no_changes, room_after, apply_answer, room_report, changes_of}
-use Rattle.room.proofs.ApplyLaws.{house_below, valid_parts, modules_size, shutters_size, Ran, Outcome, stays, did, moved, outcome, few_changes}
-use Rattle.room.proofs.Levels.{shutters_stay}
+use Rattle.shutter_table.proofs.TableLaws.{each_shutter, own_shutters_only, openings_at_most_256}
+use Rattle.room.specs.Rooms.{Room, no_changes, room_after, apply_answer, room_report, changes_of}
+use Rattle.room.proofs.ApplyLaws.{house_below, modules_size, shutters_size, Ran, Outcome, stays, did, moved, outcome}
 use Rattle.room_laws.specs.Statements.{plan_concerns, for_every_house, OnlyTypeZeroMoves, OwnHouse, OwnHouseOnly, OthersStay}
 use Rattle.room_laws.specs.Statements.{ByPlan, RecordByRecord, RefusedStays, CountAtMost16, CountAtMost256, ExtendedKeeps}
 use Rattle.room_laws.proofs.ReachLaws.{step_unreached}
@@ -42,12 +39,17 @@ use Rattle.room_laws.proofs.ReachLaws.{step_unreached}
 -- ---- each message its table
 
 pub only_type_zero_moves : OnlyTypeZeroMoves
-only_type_zero_moves m room = record { type_zero_lem = λ zero. modules_stay zero (outcome m room); others = shutters_stay m room }
+only_type_zero_moves m room = record { type_zero_lem = λ zero. modules_stay zero (outcome m room); others = λ other. shutters_stay other (outcome m room) }
   where
     modules_stay : type_zero m ≡ true → Outcome m room → (room_after m room).modules ≡ room.modules
     modules_stay zero (stays why e same) = ap (λ (x : Room). x.modules) same
     modules_stay zero (did a r) = absurd (only_type_zero.type_zero_lem m a zero r.plan)
     modules_stay zero (moved a r) = rw r.left
+
+    shutters_stay : type_zero m ≡ false → Outcome m room → (room_after m room).shutters ≡ room.shutters
+    shutters_stay other (stays why e same) = ap (λ (x : Room). x.shutters) same
+    shutters_stay other (did a r) = rw r.left
+    shutters_stay other (moved a r) = absurd (true≢false (sym (only_type_zero.others m a r.plan) ∙ other))
 
 -- ---- only the own house
 
@@ -176,13 +178,6 @@ record_by_record m room none = go (outcome m room)
 
 -- ---- refusals and the count
 
-pub none_applies : (m : Message) (room : Room) → room_ok room ≡ true → message_ok m ≡ true → carried m ≡ true → fits (plan_of m) ≡ true
-    → (room_report (apply_answer m room)).number ≡ 0
-unfolding apply_answer judged
-none_applies m room ok good runs fit =
-    let v = valid_parts room ok in
-    simp (v.modules_long_lem, v.shutters_long_lem, good, v.modules_valid_lem, v.shutters_valid_lem, runs, fit)
-
 pub refused_stays : RefusedStays
 refused_stays m room some = go (outcome m room)
   where
@@ -192,7 +187,8 @@ refused_stays m room some = go (outcome m room)
     go (moved a r) = absurd (some (rw r.answer))
 
 pub count_at_most_256 : CountAtMost256
-count_at_most_256 = few_changes
+count_at_most_256 before after =
+    (changed_at_most before.modules after.modules, openings_at_most_256 before.shutters after.shutters)
 
 pub count_at_most_16 : CountAtMost16
 count_at_most_16 m room = go (outcome m room)

@@ -1,5 +1,5 @@
 -- Demand 2: "Two routes carrying the same messages leave equal tables if the tables were equal before.", and 02, A1: "Demand 2 covers both tables from here."
--- What a route leaves and counts is what the contracts of `radio_route`, `packet_route` and `mains_route` promise of its calls.
+-- What a route leaves and counts is what the contracts of `radio_route` and `mains_route` promise of its calls.
 use Rattle.std.specs.Prelude.{ℕ, zero, suc, ◌+◌, ◌*◌, ◌/◌, ◌%◌, ◌^◌, ◌≤◌, ◌≡◌, true, length, get_or, drop, replicate}
 use mathlib.Core.List.{List, [], ◌∷◌, ◌++◌, map, flat_map}
 use Rattle.ground.specs.Refusals.{judged}
@@ -9,12 +9,12 @@ use Rattle.receiver.specs.Receivers.{fresh_receiver}
 use Rattle.receiver_laws.specs.Whole.{clear}
 use Rattle.receiver_laws.specs.Inversion.{told}
 use Rattle.receiver.specs.Bytes.{receiver_bytes}
-use Rattle.radio.specs.Codes.{four_bytes, command_ok}
-use Rattle.radio.specs.Answers.{messages_of}
+use Rattle.radio.specs.Codes.{four_bytes, command_ok, command_of}
+use Rattle.radio.specs.Answers.{read_causes, messages_of}
 use Rattle.radio.specs.declared.RadioCommand.{RadioCommand}
 use Rattle.room.specs.declared.Changes.{Changes}
-use Rattle.room.specs.Rooms.{Room, no_changes, added, changes_of}
-use Rattle.room.specs.Routes.{room_after_all, Coding, code_after, code_answer, radio_coding, packet_coding}
+use Rattle.room.specs.Rooms.{Room, no_changes, changes_of}
+use Rattle.room.specs.Routes.{room_after_all, radio_after, radio_answer}
 use Rattle.room.specs.Mains.{Lending, lent_to, heard, lent_causes, mains_causes, mains_after, mains_lent}
 
 -- ---- a route: what comes in
@@ -22,40 +22,40 @@ use Rattle.room.specs.Mains.{Lending, lent_to, heard, lent_causes, mains_causes,
 pub data Route : Type 0 where
   -- by radio, codes, a call each
   radio : List (List ℕ) → Route
-  -- by LynX-NET packets, a call each
-  packets : List (List ℕ) → Route
   -- on the mains, half-cycles in one call, with whatever is lent beside the tables: the bytes of a receiver and both buffers; Slices.antt says
   -- that more calls make no difference
   mains : Lending → Route
 
--- the messages that a code means, and none where the reader refuses it
-unfoldable pub meant_by : Coding → List ℕ → List Message
-meant_by K code = judged (K.causes code) (K.means code) (λ why. [])
+-- the messages that a code means: those of the command that it names, and none where the reader refuses it
+unfoldable pub meant_by : List ℕ → List Message
+meant_by code = judged (read_causes code) (messages_of (command_of code)) (λ why. [])
 
--- the messages that a route carries: those that its codes or packets mean, or those that its receiver gives; what is refused carries none
+-- the messages that a route carries: those that its codes mean, or those that its receiver gives; what is refused carries none
 abbrev pub carries : Route → List Message
-carries (radio codes) = flat_map (meant_by radio_coding) codes
-carries (packets ps) = flat_map (meant_by packet_coding) ps
+carries (radio codes) = flat_map meant_by codes
 carries (mains l) = judged (lent_causes l) (told (heard l)) (λ why. [])
 
 -- ---- what it leaves
 
 -- the room that is left, each call having the room that the call before it left
-unfoldable pub codes_leave : Coding → List (List ℕ) → Room → Room
-codes_leave K [] room = room
-codes_leave K (code ∷ codes) room = codes_leave K codes (code_after K code room)
+unfoldable pub radio_leaves : List (List ℕ) → Room → Room
+radio_leaves [] room = room
+radio_leaves (code ∷ codes) room = radio_leaves codes (radio_after code room)
 
 abbrev pub leaves : Route → Room → Room
-leaves (radio codes) room = codes_leave radio_coding codes room
-leaves (packets ps) room = codes_leave packet_coding ps room
+leaves (radio codes) room = radio_leaves codes room
 leaves (mains l) room = mains_after l room
 
 -- ---- what it counts
 
--- by radio and by packets, the counts that the calls give back, added up
-unfoldable pub codes_count : Coding → List (List ℕ) → Room → Changes
-codes_count K [] room = no_changes
-codes_count K (code ∷ codes) room = added (changes_of (code_answer K code room)) (codes_count K codes (code_after K code room))
+-- counts of modules and of shutters, added up each
+abbrev pub added : Changes → Changes → Changes
+added c d = record { levels = c.levels + d.levels; openings = c.openings + d.openings }
+
+-- by radio, the counts that the calls give back, added up
+unfoldable pub radio_counts : List (List ℕ) → Room → Changes
+radio_counts [] room = no_changes
+radio_counts (code ∷ codes) room = added (changes_of (radio_answer code room)) (radio_counts codes (radio_after code room))
 
 -- on the mains, the counts of the answers that are left beside the events, added up: eight bytes each, the lowest first, the levels in the sixteen bits
 -- above the lowest eight, and the openings in the next sixteen; a call that is refused counts 0
@@ -72,8 +72,7 @@ counts_in zero answers = no_changes
 counts_in (suc n) answers = added (changes_in answers) (counts_in n (drop 8 answers))
 
 abbrev pub counts : Route → Room → Changes
-counts (radio codes) room = codes_count radio_coding codes room
-counts (packets ps) room = codes_count packet_coding ps room
+counts (radio codes) room = radio_counts codes room
 counts (mains l) room = judged (mains_causes l room) (counts_in (length l.halves) (mains_lent l room).answers) (λ why. no_changes)
 
 -- ---- the demand
@@ -83,7 +82,7 @@ pub record Alike (a b : Route) (room other : Room) : Type 0 where
   pub rooms : leaves a room ≡ leaves b other
   pub same_counts : counts a room ≡ counts b other
 
--- any two routes of the three kinds, any receivers and buffers, and any rooms, refused ones too: proofs/Carried.antt
+-- any two routes, any receivers and buffers, and any rooms, refused ones too: proofs/Carried.antt
 abbrev pub Demand2 : Type 0
 Demand2 = (a b : Route) (room other : Room) → carries a ≡ carries b → room ≡ other → Alike a b room other
 

@@ -1,7 +1,6 @@
 pub mod Statements
 pub mod Demand2
 pub mod Slices
-pub mod Packets
 pub mod Press
 pub mod Lit
 pub mod Groups

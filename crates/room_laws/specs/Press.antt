@@ -1,26 +1,20 @@
--- A press, for a reader who knows keypads and no proofs: on a room where another lamp was addressed before, a press at the wall, the same press by radio
--- and the same press on the phone leave the same room, and the next Off darkens the same lamps. A room is its table of modules and its table of shutters.
+-- A press, for a reader who knows keypads and no proofs: on a room where another lamp was addressed before, a press at the wall and the same press by
+-- radio leave the same room, and the next Off darkens the same lamps. A room is its table of modules and its table of shutters.
 use Rattle.std.specs.Prelude.{ℕ, ◌+◌, ◌*◌, ◌≤◌, ◌<◌, ◌≡◌, Bool, true, false, not, ◌&&◌, [], ◌∷◌, eqb}
 use Rattle.message.specs.declared.Function.TheVariants.{On, Off}
 use Rattle.message.specs.declared.Message.TheVariants.{Address, Function as Command}
 use Rattle.radio.specs.Codes.{four_bytes}
 use Rattle.radio.specs.declared.RadioCommand.TheVariants.{On as RadioOn}
-use Rattle.lynx_net.specs.Packets.{packet_of}
-use Rattle.lynx_net.specs.Payloads.{CLOSE}
 use Rattle.record.specs.Layout.{UNITS, record_at, house_at, present}
 use Rattle.room.specs.Rooms.{Room, room_ok, room_after}
-use Rattle.room_laws.specs.Demand2.{Route, radio, packets, leaves, after, to_fresh}
+use Rattle.room_laws.specs.Demand2.{Route, radio, leaves, after, to_fresh}
 
--- The On of unit u in house h. At a wall keypad: its address and then the function, bursts after z and w clear half-cycles. By radio: one code. On the
--- phone: one packet with the payload 12, the house, the unit and FF, from any node and with any sequence number.
+-- The On of unit u in house h. At a wall keypad: its address and then the function, bursts after z and w clear half-cycles. By radio: one code.
 abbrev pub at_wall : ℕ → ℕ → ℕ → ℕ → Route
 at_wall z w h u = to_fresh (after z (Address h u) ∷ after w (Command h On) ∷ [])
 
 abbrev pub by_radio : ℕ → ℕ → Route
 by_radio h u = radio (four_bytes (RadioOn h u) ∷ [])
-
-abbrev pub by_packet : ℕ → ℕ → ℕ → ℕ → Route
-by_packet node sequence h u = packets (packet_of node sequence (0x12 ∷ h ∷ u ∷ CLOSE ∷ []) ∷ [])
 
 -- whether the house's function Off, coming next, darkens the module of record i: lit before it and dark after it
 abbrev pub darkens : ℕ → Room → ℕ → Bool
@@ -30,8 +24,6 @@ darkens h room i = not (eqb (record_at room.modules i).level 0) && eqb (record_a
 pub record SamePress (z w h u : ℕ) (room : Room) : Type 0 where
   -- a press at the wall and the same press by radio leave the same room,
   pub same_room : leaves (at_wall z w h u) room ≡ leaves (by_radio h u) room
-  -- and so does a packet with On for that unit,
-  pub same_by_packet : (node sequence : ℕ) → leaves (by_packet node sequence h u) room ≡ leaves (by_radio h u) room
   -- and no shutter has moved;
   pub no_shutter : (leaves (by_radio h u) room).shutters ≡ room.shutters
   -- the next Off darkens the same lamps,

@@ -24,7 +24,7 @@ use Rattle.radio.specs.declared.RadioRead.TheVariants as read
 use Rattle.radio.specs.declared.RadioCommand.{RadioCommand}
 use Rattle.radio.specs.declared.RadioCommand.TheVariants.{On, Off, Bright, Dim}
 use Rattle.x10.specs.Commands.{command_bytes}
-use Rattle.ground.specs.Records.{front}
+use Rattle.x10.specs.Radio.{front}
 
 command_length : (k : RadioCommand) → length (command_bytes k) ≡ 3
 command_length (On h u) = refl

@@ -1,6 +1,5 @@
 -- `x10_radio_write` and `x10_radio_read`: a radio command in three numbers, and its four bytes.
-use Rattle.std.specs.Prelude.{ℕ, ◌≡◌, List, [], ◌∷◌, ◌++◌, leb, length}
-use Rattle.ground.specs.Records.{front}
+use Rattle.std.specs.Prelude.{ℕ, ◌≡◌, List, [], ◌∷◌, ◌++◌, leb, length, drop}
 use Rattle.ground.specs.Refusals.{Cause, unless, judged, number_given, lowest}
 use Rattle.ground.specs.declared.CountAnswer.{CountAnswer}
 use Rattle.ground.specs.declared.CountAnswer.TheVariants.{Done, Refused}
@@ -9,6 +8,10 @@ use Rattle.radio.specs.Codes.{four_bytes, command_of}
 use Rattle.radio.specs.Answers.{write_causes, read_causes}
 use Rattle.radio.specs.declared.RadioCommand.{RadioCommand}
 use Rattle.x10.specs.Commands.{command_bytes}
+
+-- bytes at a buffer's front; "bytes beyond stay"
+abbrev pub front : List ℕ → List ℕ → List ℕ
+front bytes buf = bytes ++ drop (length bytes) buf
 
 -- ---- writing: what the writer refuses, 2, and then 9 for a buffer below 4
 

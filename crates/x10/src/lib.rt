@@ -2,7 +2,6 @@
 // number and every slice is taken; a refusal changes nothing that was lent.
 
 #![tactic(auto)]
-
 ghost use Rattle.std.specs.Prelude.{◌≡◌, ◌≤◌, length};
 ghost use Rattle.std.proofs.lemmas.List.Edits.{sets};
 ghost use Rattle.burst.specs.Writer.{burst_answer, buffer_after};
@@ -10,11 +9,9 @@ ghost use Rattle.wire.specs.Messages.{message_from};
 ghost use Rattle.wire.specs.Packed.{packed};
 ghost use Rattle.receiver.specs.Bytes.{fresh_answer, fresh_after, receive_answer, state_after, events_after};
 ghost use Rattle.lit.specs.Lit.{lit_answer};
-ghost use Rattle.lynx_net.specs.Packets.{write_answer, buffer_after as packetAfterWrite, alone_answer, alone_after};
-ghost use Rattle.packet_lent.specs.PacketBytes.{carried_answer, carried_after};
 ghost use Rattle.room.specs.Rooms.{room_of, room_after, apply_answer, tallied};
 ghost use Rattle.room.specs.Mains.{lent_to, mains_answer, mains_after, lent_after};
-ghost use Rattle.room.specs.Routes.{radio_answer, radio_after, packet_answer, packet_after};
+ghost use Rattle.room.specs.Routes.{radio_answer, radio_after};
 ghost use Rattle.bench_run.specs.BenchRuns.{lent, run_answer, lines_after, marks_after};
 ghost use Rattle.station_lent.specs.StationBytes.{empty_answer, empty_after, loaded_answer, loaded_after, sent_answer, turned_answer, turned_after};
 ghost use Rattle.x10.specs.Commands.{command_from, command_bytes};
@@ -25,12 +22,10 @@ use crate::commands::{command_from, three_of};
 use burst::write_burst;
 use ground::{CountAnswer, Refusal};
 use lit::lit;
-use lynx_net::payload::write_payload;
 use message::Message;
 use radio::{RadioBytes, RadioCommand, RadioRead, read, write};
 use receiver::lent::{fresh, receive};
 use room::mains::mains_route;
-use room::packets::packet_route;
 use room::routes::radio_route;
 use room::{apply, tally};
 use wire::{MessageRead, message_from, pack};
@@ -153,45 +148,6 @@ pub extern "C" fn x10_radio_read(code: &[u8], out: &mut [u8]) -> u64
     }
 }
 
-// Writes what a LynX-NET packet carries to the front of a lent buffer: node, sequence, the payload's length and five bytes for each message; the count is
-// that of the messages. Refused 19, 20, 21, 22, 9, in this order.
-#[unsafe(no_mangle)]
-pub extern "C" fn x10_packet_read(packet: &[u8], out: &mut [u8]) -> u64
-    ensures answer { result ≡ packed (carried_answer packet.now (length out.old)) }
-    ensures buffer { out.new ≡ carried_after packet.now out.old }
-{
-    pack(packet_lent::read(packet, out))
-}
-
-// Writes the packet of a node, a sequence and a payload to the front of a lent buffer; the count is that of its bytes. Refused 22, 9, in this order.
-#[unsafe(no_mangle)]
-pub extern "C" fn x10_packet_write(node: u8, sequence: u8, payload: &[u8], out: &mut [u8]) -> u64
-    ensures answer { result ≡ packed (write_answer node sequence payload.now (length out.old)) }
-    ensures buffer { out.new ≡ packetAfterWrite node sequence payload.now out.old }
-{
-    pack(lynx_net::write(node, sequence, payload, out))
-}
-
-// Writes the payload that means a message alone to the front of a lent buffer; the count is that of its bytes. Refused 2, 22, 9, in this order.
-#[unsafe(no_mangle)]
-pub extern "C" fn x10_payload(
-    kind: u8,
-    house: u8,
-    third: u8,
-    data: u8,
-    command: u8,
-    out: &mut [u8],
-) -> u64
-    ensures answer { result ≡ packed (alone_answer (handed_on (message_from kind house third «data» command)) (length out.old)) }
-    ensures buffer { out.new ≡ alone_after (handed_on (message_from kind house third «data» command)) out.old }
-{
-    // As in `x10_burst`, each arm has a call of its own.
-    match message_from(kind, house, third, data, command) {
-        MessageRead::Message(m) => pack(write_payload(m, out)),
-        MessageRead::Refused(_) => pack(write_payload(no_message(), out)),
-    }
-}
-
 // Applies a message to a lent module table and a lent shutter table; the counts are of the modules whose level differs and of the shutters whose opening
 // differs. Refused 1, 16, 2, 3, 17, 4, 18, in this order.
 #[unsafe(no_mangle)]
@@ -229,16 +185,6 @@ pub extern "C" fn x10_radio_route(table: &mut [u8], shutters: &mut [u8], code: &
     ensures room { room_of table.new shutters.new ≡ radio_after code.now (room_of table.old shutters.old) }
 {
     pack(tally(radio_route(table, shutters, code)))
-}
-
-// Applies the messages of a LynX-NET packet to both lent tables, all or none; the counts are those of `x10_apply`. Refused 1, 16, 3, 17, 19, 20, 21, 22, in
-// this order.
-#[unsafe(no_mangle)]
-pub extern "C" fn x10_packet_route(table: &mut [u8], shutters: &mut [u8], packet: &[u8]) -> u64
-    ensures answer { result ≡ packed (tallied (packet_answer packet.now (room_of table.old shutters.old))) }
-    ensures room { room_of table.new shutters.new ≡ packet_after packet.now (room_of table.old shutters.old) }
-{
-    pack(tally(packet_route(table, shutters, packet)))
 }
 
 // Hands half-cycles to the receiver in thirteen lent bytes and applies each message that it gives to both lent tables; each half-cycle leaves the six bytes of

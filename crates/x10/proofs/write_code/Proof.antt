@@ -8,8 +8,7 @@ use Rattle.ground.specs.declared.CountAnswer.TheVariants.{Done, Refused}
 use Rattle.ground.proofs.Causes.{ladder}
 use Rattle.ground.proofs.Lists.{sets-front}
 use Rattle.radio.specs.Answers.{write_report}
-use Rattle.x10.specs.Radio.{code_answer, code_after}
-use Rattle.ground.specs.Records.{front}
+use Rattle.x10.specs.Radio.{front, code_answer, code_after}
 use Rattle.x10.proofs.Fronts.{wrote, not_written}
 use borrow.Author.Rules.{rules}
 use Rattle.x10.proofs.write_code.Statement.{statement}

@@ -9,8 +9,7 @@ use Rattle.radio.specs.Codes.{command_of}
 use Rattle.radio.specs.Answers.{read_causes, read_answer}
 use Rattle.wire.specs.Packed.{packed}
 use Rattle.x10.specs.Commands.{command_bytes}
-use Rattle.x10.specs.Radio.{command_answer, command_after}
-use Rattle.ground.specs.Records.{front}
+use Rattle.x10.specs.Radio.{front, command_answer, command_after}
 use Rattle.x10.proofs.Fronts.{command_placed, was_read, not_read}
 use borrow.Author.Rules.{rules}
 use Rattle.x10.proofs.x10_radio_read.Statement.{statement}

@@ -1,12 +1,9 @@
 -- `radio_route` meets its contract: the tables are judged before the code is read, and what the reader names is a valid command.
-use mathlib.Core.Path.{sym, ap, ◌∙◌}
-use Rattle.radio.specs.Answers.{messages_of}
+use mathlib.Core.Path.{sym, ◌∙◌}
 use Rattle.radio.proofs.Theorems.{read_as}
 use Rattle.room.specs.Rooms.{room_of}
 use Rattle.room.proofs.ApplyLaws.{fine_valid}
-use Rattle.room.specs.Routes.{radio_coding}
-use Rattle.room.proofs.CodeLaws.{not_judged, not_read, obeyed}
-use Rattle.room.proofs.RadioLaws.{radio_says, radio_says_lem}
+use Rattle.room.proofs.RadioLaws.{not_judged, read_obeyed, not_read, radio_reported}
 use borrow.Author.Rules.{rules}
 use Rattle.room.proofs.routes.radio_route.Statement.{statement}
 use Rattle.room.proofs.routes.radio_route.Tie as tie
@@ -50,7 +47,7 @@ returns c =
     let why = c.before.why.given in
     let judged = c.before.before.before in
     let a = judged.before.before.before.before.before.before.args in
-    not_judged radio_coding a.code.now (room_of a.table.now a.shutters.now) judged.judge.ensures why.0.0 why.1
+    not_judged a.code.now (room_of a.table.now a.shutters.now) judged.judge.ensures why.0.0 why.1
 
 same-length-3 : tie.Need-same-length-3
 same-length-3 c = search rules
@@ -64,9 +61,11 @@ returns-2 c =
     let read = c.before.before.before.before.before.before.before.before.before.before in
     let judged = read.before.before.before in
     let a = judged.before.before.before.before.before.before.args in
-    let did = c.before.before.before.before.obey in
-    obeyed radio_coding a.code.now (room_of a.table.now a.shutters.now) judged.judge.ensures read.before.enum_told.given.1
-    (radio_says_lem a.code.now read.read.ensures.0) (messages_of k.0.0) did.result _ (ap radio_says k.1) did.ensures.0 did.ensures.1
+    let room = room_of a.table.now a.shutters.now in
+    let ok = fine_valid room judged.judge.ensures read.before.enum_told.given.1 in
+    let obeyed = c.before.before.before.before.obey in
+    let did = read_obeyed a.code.now room ok read.read.ensures.0 k.0.0 _ obeyed.result k.1 obeyed.ensures in
+    (did.0, (radio_reported a.code.now room did.0, did.1))
 
 same-length-5 : tie.Need-same-length-5
 same-length-5 c = search rules
@@ -80,8 +79,10 @@ returns-3 c =
     let read = c.before.before.before in
     let judged = read.before.before.before in
     let a = judged.before.before.before.before.before.before.args in
-    not_read radio_coding a.code.now (room_of a.table.now a.shutters.now) judged.judge.ensures read.before.enum_told.given.1
-    (radio_says_lem a.code.now read.read.ensures.0) why.0.0 (ap radio_says why.1)
+    let room = room_of a.table.now a.shutters.now in
+    let ok = fine_valid room judged.judge.ensures read.before.enum_told.given.1 in
+    let did = not_read a.code.now room ok read.read.ensures.0 why.0.0 why.1 in
+    (did.0, (radio_reported a.code.now room did.0, did.1))
 
 pub radio-route-spec : {M : Type 1} → statement M
 radio-route-spec =
