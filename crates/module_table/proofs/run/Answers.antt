@@ -10,30 +10,16 @@ use Rattle.module_table.specs.ModuleRuns.{act_answer, modules_after}
 use Rattle.module_table.proofs.Runs.{run_done}
 use Rattle.module_table.proofs.run.Goals as goal
 
-pub returns-then-t-ne-TABLE_BYTES-clause-answer : goal.returns-then-t-ne-TABLE_BYTES-clause-answer
+pub returns-then-t-ne-TABLE_BYTES : goal.returns-then-t-ne-TABLE_BYTES
 unfolding act_answer modules_after
-returns-then-t-ne-TABLE_BYTES-clause-answer c = search ladder
+returns-then-t-ne-TABLE_BYTES c = record { answer = search ladder; table = search ladder }
 
-pub returns-then-t-ne-TABLE_BYTES-clause-table : goal.returns-then-t-ne-TABLE_BYTES-clause-table
+pub returns-then-house-gt15 : goal.returns-then-house-gt15
 unfolding act_answer modules_after
-returns-then-t-ne-TABLE_BYTES-clause-table c = search ladder
+returns-then-house-gt15 c = record { answer = search ladder; table = search ladder }
 
-pub returns-then-house-gt15-clause-answer : goal.returns-then-house-gt15-clause-answer
-unfolding act_answer modules_after
-returns-then-house-gt15-clause-answer c = search ladder
-
-pub returns-then-house-gt15-clause-table : goal.returns-then-house-gt15-clause-table
-unfolding act_answer modules_after
-returns-then-house-gt15-clause-table c = search ladder
-
-pub returns-clause-answer : goal.returns-clause-answer
-returns-clause-answer c =
+pub returns : goal.returns
+returns c =
     let did = c.run_act.ensures in
     let told = run_done c.args.act c.args.house c.args.t.now (omega arith) (omega arith) in
-    ap Done (did.1 ∙ ap (λ (l : List ℕ). changed c.args.t.now l) did.0) ∙ sym told.0
-
-pub returns-clause-table : goal.returns-clause-table
-returns-clause-table c =
-    let did = c.run_act.ensures in
-    let told = run_done c.args.act c.args.house c.args.t.now (omega arith) (omega arith) in
-    did.0 ∙ sym told.1
+    record { answer = ap Done (did.1 ∙ ap (λ (l : List ℕ). changed c.args.t.now l) did.0) ∙ sym told.0; table = did.0 ∙ sym told.1 }
