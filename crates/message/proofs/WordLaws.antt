@@ -9,16 +9,13 @@ use mathlib.Core.Bool.{true}
 use Prim.Native.Nat.{ℕ, ◌/◌, ◌%◌, ◌^◌, ◌<◌}
 use native.Mathlib.Omega.{arith}
 use borrow.Author.Tests.{lt-ltb, eq-eqb}
-use lib.Dec.{eqb, ltb}
-use Rattle.ground.specs.Choice.{pick}
 use Rattle.message.specs.Codes.{code_of, function_code, meanings, meaning_of}
 use Rattle.message.specs.Messages.{message_ok}
-use Rattle.message.specs.Words.{nine, word_of, word_in, bit_count, standard_of, standard_answer}
+use Rattle.message.specs.Words.{nine, word_of, bit_count, standard_of, standard_answer}
 use Rattle.message.specs.Words.{extended_of, extended_answer, read_word, WordsReadBack, WordsOneToOne}
 use Rattle.message.specs.declared.Function.{Function}
 use Rattle.message.specs.declared.Message.{Message}
 use Rattle.message.specs.declared.Message.TheVariants.{Address, Function as Command, Extended}
-use Rattle.message.specs.declared.word.Reading.{Reading}
 use Rattle.message.specs.declared.word.Reading.TheVariants.{Message as Says, Longer as More}
 use Rattle.ground.specs.Refusals.{judged}
 use Rattle.ground.proofs.Choices.{below_sixteen, both_below}

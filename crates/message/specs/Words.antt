@@ -1,6 +1,6 @@
 -- The bits that a message's frame carries, as one number, highest bit first (01, 'Frames and bursts').
 use Rattle.std.specs.Prelude.{ℕ, ◌+◌, ◌*◌, ◌/◌, ◌%◌, ◌^◌, ◌≡◌, true, List, [], ◌∷◌, eqb, ltb}
-use Rattle.ground.specs.Refusals.{Report, reports, refuses, refusal_number, Cause, unless, judged}
+use Rattle.ground.specs.Refusals.{Report, reports, refuses, Cause, unless, judged}
 use Rattle.ground.specs.declared.Refusal.TheVariants as refusal
 use Rattle.message.specs.Messages.{message_ok}
 use Rattle.ground.specs.Choice.{pick}

@@ -41,7 +41,7 @@ use Rattle.receiver.specs.declared.lent.GivenRead.{GivenRead}
 use Rattle.receiver.specs.declared.lent.GivenRead.TheVariants.{Given as Was, Refused as NoGiven}
 use Rattle.receiver.specs.declared.lent.ReceiverRead.{ReceiverRead}
 use Rattle.receiver.specs.declared.lent.ReceiverRead.TheVariants.{Receiver as Is, Refused as NoReceiver}
-use Rattle.wire.proofs.MessageLaws.{message_length, messages_read_back, kept_read_back}
+use Rattle.wire.proofs.MessageLaws.{messages_read_back, kept_read_back}
 
 -- ---- a receiver
 

@@ -11,28 +11,28 @@ pub returns-then-buf-n-clause-value : goal.returns-then-buf-n-clause-value
 returns-then-buf-n-clause-value c =
     let f = c.frame_length-f in
     let w = c.args.w in λ m e. let n = length-of_word m w f.result e f.ensures in
-          let short = rw n at (lt-leb _ _ c.if-buf-n.true) in search ladder
+    let short = rw n at (lt-leb _ _ c.if-buf-n.true) in search ladder
 
 pub returns-then-buf-n-clause-buf_after : goal.returns-then-buf-n-clause-buf_after
 returns-then-buf-n-clause-buf_after c =
     let f = c.frame_length-f in
     let w = c.args.w in λ m e. let n = length-of_word m w f.result e f.ensures in
-          let short = rw n at (lt-leb _ _ c.if-buf-n.true) in search ladder
+    let short = rw n at (lt-leb _ _ c.if-buf-n.true) in search ladder
 
 pub returns-clause-value : goal.returns-clause-value
 returns-clause-value c =
     let f = c.frame_length-f in
     let w = c.args.w in
     let left = c.if-buf-n.false in λ m e. let n = length-of_word m w f.result e f.ensures in
-          let room = rw n at (le-leb _ _ left) in
-          search (ladder, ap Done (ap (λ (k : ℕ). k + k) n))
+    let room = rw n at (le-leb _ _ left) in
+    search (ladder, ap Done (ap (λ (k : ℕ). k + k) n))
 
 pub returns-clause-buf_after : goal.returns-clause-buf_after
 returns-clause-buf_after c =
     let f = c.frame_length-f in
     let w = c.args.w in
     let left = c.if-buf-n.false in λ m e. let n = length-of_word m w f.result e f.ensures in
-          let room = rw n at (le-leb _ _ left) in
-          let copied = burst_copied m _ _ _ _ (ap (λ (k : ℕ). k + k) n) (c.whole_burst.ensures m e)
-          c.copy_front.ensures in
-          search ladder
+    let room = rw n at (le-leb _ _ left) in
+    let copied = burst_copied m _ _ _ _ (ap (λ (k : ℕ). k + k) n) (c.whole_burst.ensures m e)
+    c.copy_front.ensures in
+    search ladder

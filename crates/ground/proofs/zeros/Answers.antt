@@ -1,4 +1,4 @@
-use Rattle.std.proofs.Common.{sym, arith, rules, eqb, ne_eqb, get_or, length}
+use Rattle.std.proofs.Common.{sym, arith, eqb, ne_eqb, get_or, length}
 use Rattle.ground.specs.Records.{all_below}
 use Rattle.ground.proofs.Records.{below_not}
 use Rattle.ground.proofs.zeros.Goals as goal

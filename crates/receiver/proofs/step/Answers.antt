@@ -19,7 +19,7 @@ returns-then-half-gt1-clause-answer c = let given = c.args in (numbered given.r 
 
 pub returns-then-half-gt1-clause-number : goal.returns-then-half-gt1-clause-number
 unfolding step_of
-returns-then-half-gt1-clause-number c = let given = c.args in (numbered given.r given.half (search ladder)).1
+returns-then-half-gt1-clause-number c = let given = c.args in (numbered given.r given.half {o = c.saying.result} (search ladder)).1
 
 pub returns-then-not-valid-clause-answer : goal.returns-then-not-valid-clause-answer
 unfolding step_of
@@ -27,7 +27,7 @@ returns-then-not-valid-clause-answer c = let given = c.args in (numbered given.r
 
 pub returns-then-not-valid-clause-number : goal.returns-then-not-valid-clause-number
 unfolding step_of
-returns-then-not-valid-clause-number c = let given = c.args in (numbered given.r given.half (search ladder)).1
+returns-then-not-valid-clause-number c = let given = c.args in (numbered given.r given.half {o = c.saying-then-not-valid.result} (search ladder)).1
 
 pub takes-requires : goal.takes-requires
 takes-requires c =
@@ -40,4 +40,4 @@ returns-clause-answer c = let given = c.args in (numbered given.r given.half (se
 
 pub returns-clause-number : goal.returns-clause-number
 unfolding step_of
-returns-clause-number c = let given = c.args in (numbered given.r given.half (search ladder)).1
+returns-clause-number c = let given = c.args in (numbered given.r given.half {o = c.takes.result} (search ladder)).1

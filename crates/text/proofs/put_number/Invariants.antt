@@ -1,7 +1,7 @@
 -- `put_number` meets its contract: the digits still to be put are the last ones of what is left of the number, and putting them makes
 -- what all digits make of the buffer.
 use mathlib.Core.Path.{◌≡◌}
-use Prim.Native.Nat.{◌-◌, ◌≤◌}
+use Prim.Native.Nat.{◌≤◌}
 use lib.Seq.{sets}
 use Rattle.text.proofs.TextLaws.{last_digits}
 use Rattle.text.proofs.put_number.Given as goal

@@ -12,11 +12,11 @@ pub returns-in-Function : goal.returns-in-Function
 unfolding standard_of
 returns-in-Function c =
     simp (
-  c.line_number-house.ensures,
-  ne_eqb _ _ c.if-bits-eq0.false,
-  sym
-      c.meaning_at.ensures ∙ c.in-Function.is,
-)
+      c.line_number-house.ensures,
+      ne_eqb _ _ c.if-bits-eq0.false,
+      sym
+          c.meaning_at.ensures ∙ c.in-Function.is,
+    )
 
 pub returns-in-Extended : goal.returns-in-Extended
 unfolding standard_of

@@ -48,28 +48,28 @@ returns-else-events-halves-clause-answer c =
     let a = c.args in
     (done a.state.now a.halves.now a.events.now c.in-Receiver.r (sym c.receiver_in.ensures.answer ∙ c.in-Receiver.is)
     c.run_all-next.result _ _ (omega arith)
-    c.run_all-next.ensures c.put_bytes.ensures).0
+    (c.run_all-next.ensures.value, c.run_all-next.ensures.events_after) c.put_bytes.ensures).0
 
 pub returns-else-events-halves-clause-report : goal.returns-else-events-halves-clause-report
 returns-else-events-halves-clause-report c =
     let a = c.args in
     (done a.state.now a.halves.now a.events.now c.in-Receiver.r (sym c.receiver_in.ensures.answer ∙ c.in-Receiver.is)
     c.run_all-next.result _ _ (omega arith)
-    c.run_all-next.ensures c.put_bytes.ensures).1.0
+    (c.run_all-next.ensures.value, c.run_all-next.ensures.events_after) c.put_bytes.ensures).1.0
 
 pub returns-else-events-halves-clause-state : goal.returns-else-events-halves-clause-state
 returns-else-events-halves-clause-state c =
     let a = c.args in
     (done a.state.now a.halves.now a.events.now c.in-Receiver.r (sym c.receiver_in.ensures.answer ∙ c.in-Receiver.is)
     c.run_all-next.result _ _ (omega arith)
-    c.run_all-next.ensures c.put_bytes.ensures).1.1.0
+    (c.run_all-next.ensures.value, c.run_all-next.ensures.events_after) c.put_bytes.ensures).1.1.0
 
 pub returns-else-events-halves-clause-events : goal.returns-else-events-halves-clause-events
 returns-else-events-halves-clause-events c =
     let a = c.args in
     (done a.state.now a.halves.now a.events.now c.in-Receiver.r (sym c.receiver_in.ensures.answer ∙ c.in-Receiver.is)
     c.run_all-next.result _ _ (omega arith)
-    c.run_all-next.ensures c.put_bytes.ensures).1.1.1
+    (c.run_all-next.ensures.value, c.run_all-next.ensures.events_after) c.put_bytes.ensures).1.1.1
 
 pub returns-in-Refused-clause-answer : goal.returns-in-Refused-clause-answer
 returns-in-Refused-clause-answer c =

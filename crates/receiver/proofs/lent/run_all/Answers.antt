@@ -1,6 +1,6 @@
 use mathlib.Core.Path.{◌≡◌, sym, ap, ◌∙◌}
 use mathlib.Core.List.{List, flat_map}
-use Prim.Native.Nat.{ℕ, ◌-◌, ◌*◌}
+use Prim.Native.Nat.{ℕ, ◌*◌}
 use native.Mathlib.Omega.{arith}
 use lib.ListN.{drop, length-drop, drop_of_length-le}
 use lib.Seq.{sets}
@@ -24,12 +24,11 @@ loop-i-preserved c =
     let halves = c.args.halves.now in
     let now = c.loop-i in
     let ran = c.to_message-ran in
-    let e = ran.ensures in
     let rest : List ℕ = drop now.i halves in
     let t = rest_on halves now.current now.i now.events ran.result.at ran.result.next ran.result.given _
-    (record { place = e.0.0; receiver = e.0.1; message = e.0.2; events = e.1 }) in (
-      ap receiver_ok e.0.1 ∙ run_valid now.current (to_given now.current rest) now.invariant.0,
-      omega (arith, e.0.0, to_most now.current rest, length-drop now.i halves),
+    (record { place = ran.ensures.at_value.0; receiver = ran.ensures.at_value.1; message = ran.ensures.at_value.2; events = ran.ensures.events_after }) in (
+      ap receiver_ok ran.ensures.at_value.1 ∙ run_valid now.current (to_given now.current rest) now.invariant.0,
+      omega (arith, ran.ensures.at_value.0, to_most now.current rest, length-drop now.i halves),
       t.0 ∙ now.invariant.2,
       t.1 ∙ now.invariant.3,
       t.2 ∙ now.invariant.4,

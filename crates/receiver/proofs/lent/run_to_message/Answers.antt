@@ -43,9 +43,8 @@ returns-clause-answer c =
     let ok = sym c.valid.ensures
     ∙ c.if-not-valid.false in
     let ran = c.to_message-ran in
-    let e = ran.ensures in
     (stretch_done a.halves.now a.r a.from a.events.now ok ran.result.at ran.result.next ran.result.given _ (omega arith)
-    (record { place = e.0.0; receiver = e.0.1; message = e.0.2; events = e.1 })).0
+    (record { place = ran.ensures.at_value.0; receiver = ran.ensures.at_value.1; message = ran.ensures.at_value.2; events = ran.ensures.events_after })).0
 
 pub returns-clause-report : goal.returns-clause-report
 returns-clause-report c =
@@ -53,9 +52,8 @@ returns-clause-report c =
     let ok = sym c.valid.ensures
     ∙ c.if-not-valid.false in
     let ran = c.to_message-ran in
-    let e = ran.ensures in
     (stretch_done a.halves.now a.r a.from a.events.now ok ran.result.at ran.result.next ran.result.given _ (omega arith)
-    (record { place = e.0.0; receiver = e.0.1; message = e.0.2; events = e.1 })).1.0
+    (record { place = ran.ensures.at_value.0; receiver = ran.ensures.at_value.1; message = ran.ensures.at_value.2; events = ran.ensures.events_after })).1.0
 
 pub returns-clause-events : goal.returns-clause-events
 returns-clause-events c =
@@ -63,6 +61,5 @@ returns-clause-events c =
     let ok = sym c.valid.ensures
     ∙ c.if-not-valid.false in
     let ran = c.to_message-ran in
-    let e = ran.ensures in
     (stretch_done a.halves.now a.r a.from a.events.now ok ran.result.at ran.result.next ran.result.given _ (omega arith)
-    (record { place = e.0.0; receiver = e.0.1; message = e.0.2; events = e.1 })).1.1
+    (record { place = ran.ensures.at_value.0; receiver = ran.ensures.at_value.1; message = ran.ensures.at_value.2; events = ran.ensures.events_after })).1.1

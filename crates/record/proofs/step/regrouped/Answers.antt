@@ -1,7 +1,7 @@
 use mathlib.Core.Path.{◌≡◌, refl, ap, ap₂, ◌∙◌}
 use mathlib.Core.Bool.{Bool}
 use mathlib.Core.List.{List}
-use Prim.Native.Nat.{ℕ, ◌+◌, ◌-◌, ◌^◌, ◌≤◌, ◌<◌}
+use Prim.Native.Nat.{ℕ, ◌+◌, ◌^◌, ◌≤◌, ◌<◌}
 use native.Mathlib.Omega.{arith}
 use native.Mathlib.Numerals.{add-one}
 use borrow.Author.Tests.{le-leb}
@@ -9,7 +9,6 @@ use lib.ListN.{set}
 use Rattle.ground.specs.Choice.{pick}
 use Rattle.ground.specs.Records.{sum_below}
 use Rattle.ground.proofs.Choices.{pick_both}
-use Rattle.plan.specs.Plans.{bit}
 use Rattle.record.specs.declared.Membership.{Membership}
 use Rattle.record.specs.Layout.{GROUPS, regroup, bit_of}
 use Rattle.record.proofs.RecordLaws.{filled, filled_all}
