@@ -1,9 +1,7 @@
--- `run::run` meets its contract: one turn more each time, and the run went on after each before (`Before`). The measure is the number of
--- reads that can still be counted.
 use mathlib.Core.Path.{◌≡◌, refl, sym, ap, ◌∙◌}
 use mathlib.Core.Bool.{Bool, true, false, false≢true, not, ◌&&◌, ◌||◌}
 use mathlib.Core.List.{List, [], ◌∷◌, ◌++◌, flat_map}
-use Prim.Native.Nat.{ℕ, ◌+◌, ◌-◌, ◌<◌}
+use Prim.Native.Nat.{ℕ, ◌+◌}
 use native.Mathlib.Omega.{arith}
 use borrow.Author.Rules.{rules}
 use borrow.Author.Tests.{eqb-true, eqb-false, le-ltb}
@@ -16,17 +14,8 @@ use Rattle.trace_lines.specs.declared.Progress.{Progress}
 use Rattle.trace_lines.specs.declared.run.Outcome.{Outcome}
 use Rattle.trace_lines.proofs.TraceLaws.{progress_append}
 use Rattle.trace_lines.proofs.RunLaws.{all_read-more, all_fit_more, all_go_on-more, all_buffers-more}
-use Rattle.trace_lines.proofs.run.run.Statement.{statement}
-use Rattle.trace_lines.proofs.run.run.Tie as tie
-
--- where the run stands before a turn
-record Before (most : ℕ) (out₀ out : List ℕ) (p : Progress) (reads : ℕ) : Type 0 where
-  turns : List Had
-  count : reads ≡ length turns
-  fit : all_fit most turns ≡ true
-  went_on : all_go_on trace_start turns ≡ true
-  stands : p ≡ progress_after trace_start (all_read turns)
-  buffers : out ≡ buffer_after out₀ (all_buffers trace_start turns)
+use Rattle.trace_lines.proofs.run.run.Invariants.{Before}
+use Rattle.trace_lines.proofs.run.run.Goals as goal
 
 starts : (most : ℕ) (out : List ℕ) (p : Progress) → p ≡ trace_start → Before most out out p 0
 unfolding all_fit all_go_on all_buffers buffer_after flat_map progress_after
@@ -94,76 +83,28 @@ module _ {most : ℕ} {out₀ out : List ℕ} {p : Progress} {reads : ℕ} (b : 
         buffers = buffers_are;
       }
 
-abbrev invariant-loop : tie.invariant-loop
-invariant-loop from to input₀ out₀ p₀ reads₀ input out p reads =
-    Before (length input₀) out₀ out p reads × (reads < GREATEST) × (length input ≡ length input₀)
+pub loop-reads-init : goal.loop-reads-init
+loop-reads-init g c = (starts _ _ _ c.begin-p.ensures, lit< tt, refl)
 
-abbrev decreases-loop : tie.decreases-loop
-decreases-loop from to input₀ out₀ p₀ reads₀ input out p reads = GREATEST - reads
+pub returns-then-goes_on-reads : goal.returns-then-goes_on-reads
+returns-then-goes_on-reads g c =
+    let l = c.loop-reads in
+    let turn = c.take_turn-had in
+    let had : Had = record { got = turn.result.got; buffer = turn.new.input; written = turn.result.written } in
+    let did = turn.ensures in
+    the_last l.invariant.0 had turn.result.progress c.outcome_of-why.result _ did.got (search rules) did.progress did.buffer
+    c.outcome_of-why.ensures _ refl
+    (ap (λ (g : Bool). g && ltb (l.reads + 1) GREATEST) (sym c.goes_on.ensures) ∙ ends_by c.goes_on.result (l.reads + 1) c.if-goes_on-reads.true)
 
--- what a turn of the loop had
-abbrev hadBy : tie.After-take-turn invariant-loop decreases-loop → Had
-hadBy t = let turn = t.take-turn in record { got = turn.result.got; buffer = turn.new.1.1.1.0; written = turn.result.written }
-
-begin-requires : tie.Need-begin-requires invariant-loop decreases-loop
-begin-requires c κs = tt
-
-loop-holds : tie.Need-loop-init invariant-loop decreases-loop
-loop-holds c = (starts _ _ _ c.begin.ensures, lit< tt, refl)
-
-take-turn-requires : tie.Need-take-turn-requires invariant-loop decreases-loop
-take-turn-requires c κs = tt
-
-outcome-of-requires : tie.Need-outcome-of-requires invariant-loop decreases-loop
-outcome-of-requires c κs = tt
-
-add_reads : tie.Need-overflow-add-reads invariant-loop decreases-loop
-add_reads c = omega arith
-
-goes-on-requires : tie.Need-goes-on-requires invariant-loop decreases-loop
-goes-on-requires c κs = tt
-
-same_length : tie.Need-same-length invariant-loop decreases-loop
-same_length c = search rules
-
-returns : tie.Need-returns invariant-loop decreases-loop
-returns c =
-    let t = c.before.before.before.before.before.before in
-    let l = t.before.before.before.loop in
-    let did = t.take-turn.ensures in
-    the_last l.invariant.0 (hadBy t) t.take-turn.result.progress c.before.before.outcome-of.result _ did.0 (search rules) did.1.0
-    did.1.1 c.before.before.outcome-of.ensures _ refl
-    (ap (λ (g : Bool). g && ltb (l.reads + 1) GREATEST) (sym c.before.goes_on.ensures)
-    ∙ ends_by c.before.goes_on.result (l.reads + 1) c.if1.true)
-
-loop-less : tie.Need-loop-smaller invariant-loop decreases-loop
-loop-less c = omega arith
-
-loop-again : tie.Need-loop-preserved invariant-loop decreases-loop
-loop-again c =
-    let t = c.before.before.before.before.before.before in
-    let l = t.before.before.before.loop in
-    let did = t.take-turn.ensures in
-    let goes = goes_by c.before.goes_on.result (l.reads + 1) c.if1.false in (
-      one_more l.invariant.0 (hadBy t) t.take-turn.result.progress c.before.before.outcome-of.result _ did.0 (search rules) did.1.0
-          did.1.1 c.before.before.outcome-of.ensures (sym c.before.goes_on.ensures ∙ goes.0),
+pub loop-reads-preserved : goal.loop-reads-preserved
+loop-reads-preserved g c =
+    let l = c.loop-reads in
+    let turn = c.take_turn-had in
+    let had : Had = record { got = turn.result.got; buffer = turn.new.input; written = turn.result.written } in
+    let did = turn.ensures in
+    let goes = goes_by c.goes_on.result (l.reads + 1) c.if-goes_on-reads.false in (
+      one_more l.invariant.0 had turn.result.progress c.outcome_of-why.result _ did.got (search rules) did.progress did.buffer
+          c.outcome_of-why.ensures (sym c.goes_on.ensures ∙ goes.0),
       omega (arith, goes.1),
       search rules,
     )
-
-pub run_spec : {M : Type 1} → statement M
-run_spec =
-    tie.close
-    (tie.spec
-    invariant-loop
-    decreases-loop
-    begin-requires
-    loop-holds
-    take-turn-requires
-    outcome-of-requires
-    add_reads
-    goes-on-requires
-    same_length
-    returns
-    loop-less
-    loop-again)
