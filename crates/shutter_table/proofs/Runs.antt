@@ -1,7 +1,7 @@
 -- A motion run on a table of the right length, for a house, a unit and an opening that there are, refuses nothing.
 --
 --     Ran, runs        what it answers and leaves
---     motion_order        MotionOrder
+--     motion_order     MotionOrder
 use mathlib.Core.Path.{◌≡◌, refl}
 use mathlib.Core.Bool.{true}
 use mathlib.Core.List.{List}

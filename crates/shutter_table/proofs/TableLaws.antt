@@ -1,7 +1,7 @@
 -- Laws of a shutter table.
 --
 --     shutters_laid                                       ShuttersLaid
---     mark_at_lem, opening_at_lem                                 a shutter's marks and openings, from where they lie
+--     mark_at_lem, opening_at_lem                         a shutter's marks and openings, from where they lie
 --     judged_absent, judged_fields, judged_styles         what is answered of an absent shutter, and of another
 --     eight_stored, stored, fields_stored                 a shutter put by its parts
 --     eight_sound, sound_eight                            a shutter is sound exactly where its marks and openings are eight each
@@ -12,10 +12,10 @@
 --     stepped_at, absent_at                               one shutter stepped
 --     run_of                                              the places that a motion covers, each stepped, are the table after it
 --     Whole, whole_table                                  what a valid table is
---     shutters_stay_valid, own_shutters_only, openings_at_most_256         ShuttersStayValid, OwnShuttersOnly, OpeningsAtMost256
+--     shutters_stay_valid, own_shutters_only, openings_at_most_256  ShuttersStayValid, OwnShuttersOnly, OpeningsAtMost256
 --     openings_none                                       a table that is left has no opening that differs
 use mathlib.Core.Path.{◌≡◌, refl, sym, ap, subst, ◌∙◌}
-use mathlib.Core.Bool.{Bool, true, false, not, ◌&&◌, true≢false, false≢true, and-eq-true_iff}
+use mathlib.Core.Bool.{Bool, true, false, ◌&&◌, true≢false, false≢true, and-eq-true_iff}
 use mathlib.Core.List.{List, [], ◌∷◌}
 use mathlib.Core.Logic.{⊎_elim}
 use Prim.Native.Nat.{ℕ, ◌+◌, ◌-◌, ◌*◌, ◌/◌, ◌%◌, ◌≤◌, ◌<◌}
@@ -30,7 +30,6 @@ use lib.Seq.{sets, length-sets}
 use Rattle.ground.specs.Choice.{pick}
 use Rattle.ground.specs.Records.{bytes_at, put_at, step_each, Stepped, all_below, Sound}
 use Rattle.ground.proofs.Choices.{pick_both, both}
-use Rattle.ground.proofs.Causes.{bad, fine}
 use Rattle.ground.proofs.Lists.{sets-append, bytes_at_lem, bytes_same, bytes_whole, sets-bytes}
 use Rattle.ground.proofs.Records.{laid_by_bytes, Apart, get_d_sets_before, get_d_sets_after, get_d_sets_in}
 use Rattle.ground.proofs.Records.{put_as, each-length, each_other, each_at, same_records, differing_none, differing_at_most, below_at, below_all}
@@ -74,13 +73,13 @@ judged_absent t i away e = rw e (sym (absent_ok (shutter_at t i) away))
 module _ (t : List ℕ) (i : ℕ) (here : get_or t (i * SHUTTER_BYTES) 0 ≡ 0 → ⊥) {fields : Bool}
     (e : fields ≡ fields_ok (get_or t (i * SHUTTER_BYTES) 0) (get_or t (i * SHUTTER_BYTES + 1) 0) (get_or t (i * SHUTTER_BYTES + 2) 0)
     (get_or t (i * SHUTTER_BYTES + 3) 0)) where
-  pub judged_fields : not fields ≡ true → false ≡ shutter_ok (shutter_at t i)
+  pub judged_fields : fields ≡ false → false ≡ shutter_ok (shutter_at t i)
   unfolding shutter_at
-  judged_fields h = sym (present_ok (shutter_at t i) here ∙ ap (λ (x : Bool). x && lifestyles_ok LIFESTYLES (shutter_at t i)) (bad e h))
+  judged_fields h = sym (present_ok (shutter_at t i) here ∙ ap (λ (x : Bool). x && lifestyles_ok LIFESTYLES (shutter_at t i)) (sym e ∙ h))
 
-  pub judged_styles : {styles : Bool} → not fields ≡ false → styles ≡ lifestyles_ok LIFESTYLES (shutter_at t i) → styles ≡ shutter_ok (shutter_at t i)
+  pub judged_styles : {styles : Bool} → fields ≡ true → styles ≡ lifestyles_ok LIFESTYLES (shutter_at t i) → styles ≡ shutter_ok (shutter_at t i)
   unfolding shutter_at
-  judged_styles h d = d ∙ sym (present_ok (shutter_at t i) here ∙ ap (λ (x : Bool). x && lifestyles_ok LIFESTYLES (shutter_at t i)) (fine e h))
+  judged_styles h d = d ∙ sym (present_ok (shutter_at t i) here ∙ ap (λ (x : Bool). x && lifestyles_ok LIFESTYLES (shutter_at t i)) (sym e ∙ h))
 
 -- ---- a shutter stored
 

@@ -1,0 +1,12 @@
+-- `run_whole` meets its contract. The loop's invariant, Turn: the shutters passed are stepped, and the count is that of the openings changed so far.
+use Prim.Native.Nat.{◌-◌}
+use Rattle.ground.proofs.Records.{Turn}
+use Rattle.shutter.specs.Shutters.{step_shutter}
+use Rattle.shutter_table.specs.ShutterTable.{SHUTTERS, shutters, opening_of}
+use Rattle.shutter_table.proofs.run_whole.Given as goal
+
+abbrev pub invariant-loop-n : goal.invariant-loop-n
+invariant-loop-n l = Turn shutters opening_of (λ k. step_shutter l.motion) l.first l.many SHUTTERS l.initial.t l.t l.count l.n
+
+abbrev pub decreases-loop-n : goal.decreases-loop-n
+decreases-loop-n l = l.many - l.n
