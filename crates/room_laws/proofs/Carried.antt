@@ -1,6 +1,6 @@
 -- A route leaves what its messages leave: call by call where the room is valid, and where it is not every call is refused.
 --
---     count_all                  the counts of messages applied one after the other
+--     count_all                 the counts of messages applied one after the other
 --     heard_all                 what events leave of a room is what their messages leave
 --     carried                   what a route leaves and counts, by its messages
 --     demand_2, no_more         the theorems of specs/Demand2.antt
