@@ -5,8 +5,8 @@
 
 ghost use Rattle.std.specs.Prelude.{◌≡◌, ◌+◌, ◌≤◌};
 
-use libc::{STDIN_FILENO, STDOUT_FILENO};
 use packet_lines::{KEPT, Line, ROOM, begin, put_line, step};
+use std::io::Read;
 use text::front;
 
 // The bytes of a piece, and of the buffer that lines are gathered in.
@@ -27,20 +27,26 @@ struct Progress {
 }
 
 // Writes the first bytes of the buffer, and answers whether all of them were written. Where they were not, standard error says why.
-fn write(out: &[u8], n: usize) -> bool {
-    if io::write_all(STDOUT_FILENO, front(out, n)) {
-        return true;
+fn write(rt: &HostRuntime, out: &[u8], n: usize) -> bool {
+    match rt.write_all(front(out, n)) {
+        Ok(()) => true,
+        Err(why) => {
+            let _ = eprintln!(rt; "packet: cannot write: {why}");
+            false
+        }
     }
-    os::fail(b"packet: cannot write");
-    false
 }
 
 // Writes what is gathered; after a write that failed no more.
-fn flush(p: Progress, out: &[u8]) -> Progress
+fn flush(rt: &HostRuntime, p: Progress, out: &[u8]) -> Progress
     ensures { result.at ≡ 0 }
 {
     let line = p.line;
-    let done = if p.written { write(out, p.at) } else { false };
+    let done = if p.written {
+        write(rt, out, p.at)
+    } else {
+        false
+    };
     Progress {
         line: line,
         at: 0,
@@ -62,21 +68,21 @@ fn put(out: &mut [u8; SIZE], at: usize, text: &[u8; ROOM], n: usize) -> usize
 }
 
 // Writes a buffer that is nearly full.
-fn make_room(p: Progress, out: &[u8]) -> Progress
+fn make_room(rt: &HostRuntime, p: Progress, out: &[u8]) -> Progress
     ensures { result.at ≤ 65024 }
 {
     if p.at > LAST {
-        return flush(p, out);
+        return flush(rt, p, out);
     }
     p
 }
 
 // Prints a line that is over, and begins the next.
-fn end_line(p: Progress, kept: &[u8; KEPT], out: &mut [u8; SIZE]) -> Progress {
+fn end_line(rt: &HostRuntime, p: Progress, kept: &[u8; KEPT], out: &mut [u8; SIZE]) -> Progress {
     let mut text = [0u8; ROOM];
     let line = p.line;
     let n = put_line(line, kept, &mut text);
-    let q = make_room(p, out);
+    let q = make_room(rt, p, out);
     let at = put(out, q.at, &text, n);
     Progress {
         line: begin(),
@@ -86,9 +92,15 @@ fn end_line(p: Progress, kept: &[u8; KEPT], out: &mut [u8; SIZE]) -> Progress {
 }
 
 // One character of the input.
-fn take_byte(p: Progress, b: u8, kept: &mut [u8; KEPT], out: &mut [u8; SIZE]) -> Progress {
+fn take_byte(
+    rt: &HostRuntime,
+    p: Progress,
+    b: u8,
+    kept: &mut [u8; KEPT],
+    out: &mut [u8; SIZE],
+) -> Progress {
     if b == 10 {
-        return end_line(p, kept, out);
+        return end_line(rt, p, kept, out);
     }
     let line = p.line;
     let next = step(line, b, kept);
@@ -100,23 +112,29 @@ fn take_byte(p: Progress, b: u8, kept: &mut [u8; KEPT], out: &mut [u8; SIZE]) ->
 }
 
 // A piece of the input.
-fn take_piece(p: Progress, input: &[u8], kept: &mut [u8; KEPT], out: &mut [u8; SIZE]) -> Progress {
+fn take_piece(
+    rt: &HostRuntime,
+    p: Progress,
+    input: &[u8],
+    kept: &mut [u8; KEPT],
+    out: &mut [u8; SIZE],
+) -> Progress {
     let mut q = p;
     let mut i = 0;
     while i < input.len() {
-        q = take_byte(q, input[i], kept, out);
+        q = take_byte(rt, q, input[i], kept, out);
         i += 1;
     }
     q
 }
 
 // The last line, which counts without a line feed too, if it has any character.
-fn end_input(p: Progress, kept: &[u8; KEPT], out: &mut [u8; SIZE]) -> Progress {
+fn end_input(rt: &HostRuntime, p: Progress, kept: &[u8; KEPT], out: &mut [u8; SIZE]) -> Progress {
     let line = p.line;
     if line.place == 0 {
         return p;
     }
-    end_line(p, kept, out)
+    end_line(rt, p, kept, out)
 }
 
 // What a read gave.
@@ -128,16 +146,15 @@ enum Got {
 }
 
 // Reads a piece. Where that fails, standard error says why.
-fn read(input: &mut [u8]) -> Got {
-    let answer = libc::read(STDIN_FILENO, input);
-    if answer < 0 {
-        os::fail(b"packet: cannot read");
-        return Got::Failed;
+fn read(rt: &HostRuntime, input: &mut [u8]) -> Got {
+    match rt.stdin().read(input) {
+        Ok(0) => Got::Ended,
+        Ok(n) => Got::Bytes(n),
+        Err(why) => {
+            let _ = eprintln!(rt; "packet: cannot read: {why}");
+            Got::Failed
+        }
     }
-    if answer == 0 {
-        return Got::Ended;
-    }
-    Got::Bytes(io::count(answer, input))
 }
 
 // Whether there is more to read, and where the program stands.
@@ -149,22 +166,23 @@ struct Turn {
 
 // Reads a piece and prints its lines.
 fn take_turn(
+    rt: &HostRuntime,
     p: Progress,
     input: &mut [u8; SIZE],
     kept: &mut [u8; KEPT],
     out: &mut [u8; SIZE],
 ) -> Turn {
-    let got = read(input);
+    let got = read(rt, input);
     match got {
         Got::Bytes(n) => {
-            let q = flush(take_piece(p, front(input, n), kept, out), out);
+            let q = flush(rt, take_piece(rt, p, front(input, n), kept, out), out);
             Turn {
                 progress: q,
                 more: q.written,
             }
         }
         Got::Ended => Turn {
-            progress: flush(end_input(p, kept, out), out),
+            progress: flush(rt, end_input(rt, p, kept, out), out),
             more: false,
         },
         Got::Failed => Turn {
@@ -176,7 +194,7 @@ fn take_turn(
 
 // Reads to the input's end, or to a read or a write that fails. A proved loop has to end, and nothing says that an input does: it ends too after
 // as many reads as a number counts, which no run comes to.
-fn main() {
+fn main(rt: HostRuntime) {
     let mut input = [0u8; SIZE];
     let mut out = [0u8; SIZE];
     let mut kept = [0u8; KEPT];
@@ -187,7 +205,7 @@ fn main() {
     };
     let mut reads: u64 = 0;
     while reads < GREATEST {
-        let turn = take_turn(p, &mut input, &mut kept, &mut out);
+        let turn = take_turn(&rt, p, &mut input, &mut kept, &mut out);
         if !turn.more {
             return;
         }

@@ -9,12 +9,19 @@
 
 ghost use Rattle.std.specs.Prelude.{◌+◌, ◌≤◌, ◌<◌, length};
 
-use libc::STDOUT_FILENO;
 use lynx_net::{PacketRead, check_of};
 use packet_lines::{KEPT, Line, ROOM, begin, put_answer, step};
+use std::fs::File;
+use std::io::{Read, Result};
 use text::front;
 
 const ROWS: usize = 76;
+
+// The most bytes of a listing that are looked at.
+const LONGEST: u64 = 65536;
+
+// The descriptor of standard output.
+const STDOUT: i32 = 1;
 
 // What is wrong with a packet as it is printed.
 #[derive(Clone, Copy)]
@@ -127,19 +134,19 @@ fn print_fault(fault: Fault) {
     match fault {
         Fault::Nothing => {}
         Fault::Length => {
-            io::write_all(STDOUT_FILENO, b"\tMISPRINT\tLENGTH");
+            io::write_all(STDOUT, b"\tMISPRINT\tLENGTH");
         }
         Fault::Check => {
-            io::write_all(STDOUT_FILENO, b"\tMISPRINT\tCHECK");
+            io::write_all(STDOUT, b"\tMISPRINT\tCHECK");
         }
         Fault::Code => {
-            io::write_all(STDOUT_FILENO, b"\tMISPRINT\tCODE");
+            io::write_all(STDOUT, b"\tMISPRINT\tCODE");
         }
     }
 }
 
 fn print_front(text: &[u8; ROOM], n: usize) {
-    io::write_all(STDOUT_FILENO, front(text, n));
+    io::write_all(STDOUT, front(text, n));
 }
 
 // Prints what the reader says of a packet.
@@ -188,7 +195,7 @@ fn judge_bytes(printed: &[u8], code: u8, mark: &[u8]) -> Verdict {
     if (line.bad == 0) & (line.high >= 16) {
         return judge_kept(&kept, line.count, code, mark);
     }
-    io::write_all(STDOUT_FILENO, b"NOT WHOLE");
+    io::write_all(STDOUT, b"NOT WHOLE");
     if mark.len() == 0 {
         Verdict::NotWhole
     } else {
@@ -203,13 +210,13 @@ fn judge_row(row: &[u8]) -> Verdict {
     let bytes = past(row, find(row, name, b'\t'));
     let bytes_end = find(row, bytes, b'\t');
     let mark = past(row, bytes_end);
-    io::write_all(STDOUT_FILENO, front(row, bytes));
+    io::write_all(STDOUT, front(row, bytes));
     let verdict = judge_bytes(
         &row[bytes..bytes_end],
         code_of(front(row, code_end)),
         &row[mark..],
     );
-    io::write_all(STDOUT_FILENO, b"\n");
+    io::write_all(STDOUT, b"\n");
     verdict
 }
 
@@ -251,8 +258,8 @@ fn counted(t: Totals, v: Verdict) -> Totals
 }
 
 fn print_total(n: u64, what: &[u8]) {
-    io::print_decimal(STDOUT_FILENO, n);
-    io::write_all(STDOUT_FILENO, what);
+    io::print_decimal(STDOUT, n);
+    io::write_all(STDOUT, what);
 }
 
 fn print_totals(totals: Totals, rest: usize) {
@@ -287,15 +294,15 @@ fn judge_all(text: &[u8]) {
     print_totals(totals, text.len() - at);
 }
 
-fn main() {
-    let path = b"listing.tsv";
-    let fd = os::open_read(path);
-    if fd < 0 {
-        os::fail(path);
-        return;
+fn main(rt: HostRuntime) -> Result<()> {
+    let path = "listing.tsv";
+    match File::open(&rt, path) {
+        Ok(file) => {
+            let mut text = Vec::new(rt.alloc());
+            file.take(LONGEST).read_to_end(&mut text)?;
+            judge_all(&text);
+            Ok(())
+        }
+        Err(why) => eprintln!(rt; "{path}: {why}"),
     }
-    let mut text = io::large_buffer();
-    let n = io::read_full(fd, &mut text);
-    libc::close(fd);
-    judge_all(&text[..n]);
 }

@@ -5,8 +5,10 @@
 
 ghost use Rattle.std.specs.Prelude.{◌<◌, ◌≤◌};
 
-use libc::STDOUT_FILENO;
 use radio::{RadioBytes, RadioCommand, RadioRead, read, write};
+
+// The descriptor of standard output.
+const STDOUT: i32 = 1;
 
 // Outcomes, each a bit of a set. A unit that has moved by a single weight is that weight: 1, 2, 4 or 8.
 const HOUSE: u16 = 16;
@@ -151,8 +153,8 @@ fn outcomes(first: usize, mask: u8, second: usize, second_mask: u8) -> u16
 
 fn print_one(set: u16, outcome: u16, words: &[u8]) {
     if set & outcome != 0 {
-        io::write_all(STDOUT_FILENO, b"\t");
-        io::write_all(STDOUT_FILENO, words);
+        io::write_all(STDOUT, b"\t");
+        io::write_all(STDOUT, words);
     }
 }
 
@@ -168,16 +170,16 @@ fn print_set(set: u16) {
     print_one(set, COMPLEMENT, b"refused 13");
     print_one(set, CODE, b"refused 14");
     print_one(set, OTHER, b"something else");
-    io::write_all(STDOUT_FILENO, b"\n");
+    io::write_all(STDOUT, b"\n");
 }
 
 // The line of a bit of b or c: b is byte 0 and c byte 2, each followed by its complement.
 fn print_bit(name: &[u8], at: usize, bit: u8)
     requires { (at ≤ 2) × (bit < 8) }
 {
-    io::write_all(STDOUT_FILENO, name);
-    io::write_all(STDOUT_FILENO, b"'s bit ");
-    io::print_decimal(STDOUT_FILENO, bit as u64);
+    io::write_all(STDOUT, name);
+    io::write_all(STDOUT, b"'s bit ");
+    io::print_decimal(STDOUT, bit as u64);
     let mask = 1 << bit;
     print_set(outcomes(at, mask, at + 1, mask));
 }
@@ -201,7 +203,7 @@ fn print_alone() {
         set = set | outcomes(place / 8, 1 << (place % 8), 0, 0);
         place += 1;
     }
-    io::write_all(STDOUT_FILENO, b"any bit alone");
+    io::write_all(STDOUT, b"any bit alone");
     print_set(set);
 }
 

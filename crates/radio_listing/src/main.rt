@@ -9,11 +9,18 @@
 
 ghost use Rattle.std.specs.Prelude.{◌+◌, ◌≤◌, ◌<◌, length};
 
-use libc::STDOUT_FILENO;
 use radio::{RadioBytes, RadioCommand, RadioRead};
+use std::fs::File;
+use std::io::{Read, Result};
 use text::{ROOM, Text, front, letter, place};
 
 const ROWS: usize = 544;
+
+// The most bytes of a listing that are looked at.
+const LONGEST: u64 = 65536;
+
+// The descriptor of standard output.
+const STDOUT: i32 = 1;
 
 // The command of a row: on and off for each unit of a house, bright and dim.
 fn command_at(row: usize) -> RadioCommand
@@ -165,12 +172,12 @@ enum Verdict {
 
 // Prints a row that differs.
 fn report(row: usize, printed: &[u8], rule: &[u8]) {
-    io::print_decimal(STDOUT_FILENO, row as u64);
-    io::write_all(STDOUT_FILENO, b"\tlisting\t");
-    io::write_all(STDOUT_FILENO, printed);
-    io::write_all(STDOUT_FILENO, b"\trule\t");
-    io::write_all(STDOUT_FILENO, rule);
-    io::write_all(STDOUT_FILENO, b"\n");
+    io::print_decimal(STDOUT, row as u64);
+    io::write_all(STDOUT, b"\tlisting\t");
+    io::write_all(STDOUT, printed);
+    io::write_all(STDOUT, b"\trule\t");
+    io::write_all(STDOUT, rule);
+    io::write_all(STDOUT, b"\n");
 }
 
 // Judges a line of the listing by the row of the rule, and prints it where it differs. Rows are numbered from 1.
@@ -234,8 +241,8 @@ fn counted(t: Totals, v: Verdict) -> Totals
 }
 
 fn print_total(n: u64, what: &[u8]) {
-    io::print_decimal(STDOUT_FILENO, n);
-    io::write_all(STDOUT_FILENO, what);
+    io::print_decimal(STDOUT, n);
+    io::write_all(STDOUT, what);
 }
 
 fn print_totals(totals: Totals, rest: usize) {
@@ -266,15 +273,15 @@ fn judge_all(text: &[u8]) {
     print_totals(totals, text.len() - at);
 }
 
-fn main() {
-    let path = b"listing.tsv";
-    let fd = os::open_read(path);
-    if fd < 0 {
-        os::fail(path);
-        return;
+fn main(rt: HostRuntime) -> Result<()> {
+    let path = "listing.tsv";
+    match File::open(&rt, path) {
+        Ok(file) => {
+            let mut text = Vec::new(rt.alloc());
+            file.take(LONGEST).read_to_end(&mut text)?;
+            judge_all(&text);
+            Ok(())
+        }
+        Err(why) => eprintln!(rt; "{path}: {why}"),
     }
-    let mut text = io::large_buffer();
-    let n = io::read_full(fd, &mut text);
-    libc::close(fd);
-    judge_all(&text[..n]);
 }

@@ -4,7 +4,6 @@ ghost use Rattle.record.specs.Layout.{TABLE_BYTES};
 
 use crate::line::ANSWERS;
 use ground::{CountAnswer, Refusal, refusal_number};
-use libc::STDOUT_FILENO;
 use lit::lit;
 use message::Message;
 use record::{HEARD_AT, HOUSES, LIT_AT, RECORD_BYTES, RECORDS, TABLE_BYTES, UNITS};
@@ -12,8 +11,11 @@ use room::{Changes, RoomAnswer};
 use shutter_table::{SHUTTER_BYTES, SHUTTER_TABLE_BYTES, SHUTTERS};
 use text::{Text, front, hex, letter, place};
 
+// The descriptor of standard output.
+const STDOUT: i32 = 1;
+
 pub(crate) fn print(s: &[u8]) {
-    io::write_all(STDOUT_FILENO, s);
+    io::write_all(STDOUT, s);
 }
 
 fn print_text(t: Text) {
@@ -22,7 +24,7 @@ fn print_text(t: Text) {
 }
 
 fn number(n: u64) {
-    io::print_decimal(STDOUT_FILENO, n);
+    io::print_decimal(STDOUT, n);
 }
 
 fn shutters_moved(n: usize) {

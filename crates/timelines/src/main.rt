@@ -9,13 +9,15 @@ mod stations;
 
 use ground::refusal_number;
 use heard::{event_mark, listen, put_event};
-use libc::STDOUT_FILENO;
 use page::{cell, put, put_label, put_labels, put_number, put_ruler, put_text, row_at};
 use receiver::fresh;
 use station::bench::{BenchAnswer, BenchTurn, half_cycle};
 use station::{Held, SendAnswer, Station};
 use stations::{a_against_b, a_and_a, all_empty, draws_at, put_stations, sixteen, waits_8_and_9};
 use text::front;
+
+// The descriptor of standard output.
+const STDOUT: i32 = 1;
 
 // Half-cycles enough for sixteen stations to be DONE: 134 for each.
 const LONGEST: usize = 2144;
@@ -140,7 +142,7 @@ fn run(page: &mut [u8; 65536], at: usize, start: [Station; 16], n: usize, fixed:
 }
 
 fn write_page(page: &[u8; 65536], n: usize) {
-    io::write_all(STDOUT_FILENO, front(page, n));
+    io::write_all(STDOUT, front(page, n));
 }
 
 // What the rows and their marks mean.

@@ -3,11 +3,12 @@
 
 #![tactic(auto)]
 
-use libc::{STDIN_FILENO, STDOUT_FILENO};
 use trace_lines::SIZE;
 
-fn main() {
+fn main(rt: HostRuntime) {
     let mut input = [0u8; SIZE];
     let mut out = [0u8; SIZE];
-    trace_lines::run::run(STDIN_FILENO, STDOUT_FILENO, &mut input, &mut out);
+    let mut from = rt.stdin();
+    let mut to = rt.stdout();
+    trace_lines::run::run(&rt, &mut from, &mut to, &mut input, &mut out);
 }

@@ -4,6 +4,7 @@ ghost use Rattle.trace_lines.specs.Trace.{progress_after};
 ghost use Rattle.trace_lines.specs.Runs.{buffers_of, buffer_after, got_of, bytes_got, got_ok, outcome_of, goes_on_by, RunOf};
 
 use crate::{GREATEST, Progress, SIZE, begin, trace};
+use std::io::{Read, Write};
 
 // What a read gave.
 #[derive(Clone, Copy)]
@@ -47,18 +48,26 @@ pub struct Ran {
 }
 
 // Writes the buffer's first bytes, and answers whether all of them were written. Where they were not, standard error says why.
-fn write(to: i32, out: &[u8], n: usize) -> bool
+fn write<W: Write>(rt: &impl Eprint, to: &mut W, out: &[u8], n: usize) -> bool
     requires { n ≤ length out.now }
 {
-    if io::write_all(to, &out[..n]) {
-        return true;
+    match to.write_all(&out[..n]) {
+        Ok(()) => true,
+        Err(why) => {
+            let _ = eprintln!(rt; "trace: cannot write: {why}");
+            false
+        }
     }
-    os::fail(b"trace: cannot write");
-    false
 }
 
 // The whole of a piece. As often as the buffer is full it is written, and at the end of the piece; after a write that failed no more.
-fn print_piece(to: i32, p: Progress, input: &[u8], out: &mut [u8; SIZE]) -> Piece
+fn print_piece<W: Write>(
+    rt: &impl Eprint,
+    to: &mut W,
+    p: Progress,
+    input: &[u8],
+    out: &mut [u8; SIZE],
+) -> Piece
     ensures progress { result.progress ≡ progress_after p input.now }
     ensures buffer { out.new ≡ buffer_after out.old (buffers_of p input.now) }
 {
@@ -68,7 +77,7 @@ fn print_piece(to: i32, p: Progress, input: &[u8], out: &mut [u8; SIZE]) -> Piec
     while from < input.len() {
         let done = trace(q, &input[from..], out);
         if written {
-            written = write(to, out, done.length);
+            written = write(rt, to, out, done.length);
         }
         let next = done.progress;
         q = next;
@@ -101,26 +110,35 @@ fn got_of(answer: isize, input: &[u8]) -> Got
 }
 
 // Reads a piece. Where that fails, standard error says why.
-fn read(from: i32, input: &mut [u8]) -> Got
+fn read<R: Read>(rt: &impl Eprint, from: &mut R, input: &mut [u8]) -> Got
     ensures { got_ok result (length input.new) ≡ true }
 {
-    let answer = libc::read(from, input);
-    if answer < 0 {
-        os::fail(b"trace: cannot read");
+    match from.read(input) {
+        Ok(n) => got_of(n as isize, input),
+        Err(why) => {
+            let _ = eprintln!(rt; "trace: cannot read: {why}");
+            got_of(-1, input)
+        }
     }
-    got_of(answer, input)
 }
 
 // Reads a piece and prints it.
-fn take_turn(from: i32, to: i32, p: Progress, input: &mut [u8], out: &mut [u8; SIZE]) -> Turn
+fn take_turn<R: Read, W: Write>(
+    rt: &impl Eprint,
+    from: &mut R,
+    to: &mut W,
+    p: Progress,
+    input: &mut [u8],
+    out: &mut [u8; SIZE],
+) -> Turn
     ensures got { got_ok result.got (length input.new) ≡ true }
     ensures progress { result.progress ≡ progress_after p (bytes_got result.got input.new) }
     ensures buffer { out.new ≡ buffer_after out.old (buffers_of p (bytes_got result.got input.new)) }
 {
-    let got = read(from, input);
+    let got = read(rt, from, input);
     match got {
         Got::Bytes(n) => {
-            let piece = print_piece(to, p, &input[..n], out);
+            let piece = print_piece(rt, to, p, &input[..n], out);
             let next = piece.progress;
             Turn {
                 progress: next,
@@ -171,16 +189,23 @@ fn goes_on(why: Outcome) -> bool
     }
 }
 
-// The trace of one descriptor's input on another, read into a lent buffer piece by piece and written from a second one: to the input's
-// end, a byte that stops the trace, or a read or a write that fails. A buffer of no bytes reads none, as at the input's end. A proved
-// loop has to end, and nothing says that an input does: it ends too after as many reads as a number counts, which no run comes to.
-pub fn run(from: i32, to: i32, input: &mut [u8], out: &mut [u8; SIZE]) -> Ran
+// The trace of a reader's input on a writer, read into a lent buffer piece by piece and written from a second one: to the input's
+// end, a byte that stops the trace, or a read or a write that fails, of which standard error says why. A buffer of no bytes reads none, as
+// at the input's end. A proved loop has to end, and nothing says that an input does: it ends too after as many reads as a number counts,
+// which no run comes to.
+pub fn run<R: Read, W: Write>(
+    rt: &impl Eprint,
+    from: &mut R,
+    to: &mut W,
+    input: &mut [u8],
+    out: &mut [u8; SIZE],
+) -> Ran
     ensures { RunOf result input.new out.old out.new }
 {
     let mut p = begin();
     let mut reads: u64 = 0;
     loop {
-        let had = take_turn(from, to, p, input, out);
+        let had = take_turn(rt, from, to, p, input, out);
         let next = had.progress;
         let got = had.got;
         let why = outcome_of(got, had.written, next.stopped);

@@ -15,12 +15,16 @@
 
 #![tactic(auto)]
 
-use libc::STDOUT_FILENO;
+use std::fs::File;
+use std::io::Write;
 use trace_lines::SIZE;
 use trace_lines::run::{Outcome, run};
 
+// The descriptor of standard output.
+const STDOUT: i32 = 1;
+
 fn say(text: &[u8]) {
-    io::write_all(STDOUT_FILENO, text);
+    io::write_all(STDOUT, text);
 }
 
 // The heading of a run: its input, and the length of the buffer that it is read into.
@@ -28,7 +32,7 @@ fn say_input(name: &[u8], size: usize) {
     say(b"# ");
     say(name);
     say(b", read in pieces of ");
-    io::print_decimal(STDOUT_FILENO, size as u64);
+    io::print_decimal(STDOUT, size as u64);
     say(b"\n");
 }
 
@@ -46,67 +50,72 @@ fn say_outcome(why: Outcome) {
 fn say_end(why: Outcome, reads: u64) {
     say_outcome(why);
     say(b", reads: ");
-    io::print_decimal(STDOUT_FILENO, reads);
+    io::print_decimal(STDOUT, reads);
     say(b"\n");
 }
 
-// The trace of a file on a descriptor.
-fn trace_to(to: i32, name: &[u8], input: &mut [u8]) {
-    say_input(name, input.len());
-    let from = os::open_read(name);
-    if from < 0 {
-        os::fail(name);
-        return;
+// A file that is open for reading. Where it does not open, standard error says why.
+fn open(rt: &HostRuntime, name: &str) -> Option<File> {
+    match File::open(rt, name) {
+        Ok(file) => Some(file),
+        Err(why) => {
+            let _ = eprintln!(rt; "{name}: {why}");
+            None
+        }
     }
-    let mut out = [0u8; SIZE];
-    let ran = run(from, to, input, &mut out);
-    libc::close(from);
-    let why = ran.outcome;
-    say_end(why, ran.reads);
+}
+
+// The trace of a file on a writer.
+fn trace_to<W: Write>(rt: &HostRuntime, to: &mut W, name: &str, input: &mut [u8]) {
+    say_input(name.as_bytes(), input.len());
+    if let Some(mut from) = open(rt, name) {
+        let mut out = [0u8; SIZE];
+        let ran = run(rt, &mut from, to, input, &mut out);
+        let why = ran.outcome;
+        say_end(why, ran.reads);
+    }
 }
 
 // A file read whole, in pieces of 7 bytes, and byte by byte.
-fn trace_in_pieces(name: &[u8]) {
+fn trace_in_pieces(rt: &HostRuntime, name: &str) {
+    let mut to = rt.stdout();
     let mut whole = [0u8; SIZE];
-    trace_to(STDOUT_FILENO, name, &mut whole);
+    trace_to(rt, &mut to, name, &mut whole);
     let mut seven = [0u8; 7];
-    trace_to(STDOUT_FILENO, name, &mut seven);
+    trace_to(rt, &mut to, name, &mut seven);
     let mut one = [0u8; 1];
-    trace_to(STDOUT_FILENO, name, &mut one);
+    trace_to(rt, &mut to, name, &mut one);
 }
 
-fn trace_whole(name: &[u8]) {
+fn trace_whole(rt: &HostRuntime, name: &str) {
+    let mut to = rt.stdout();
     let mut input = [0u8; SIZE];
-    trace_to(STDOUT_FILENO, name, &mut input);
+    trace_to(rt, &mut to, name, &mut input);
 }
 
-// A descriptor that is open for reading takes no line.
-fn trace_unwritten(name: &[u8]) {
-    let to = os::open_read(name);
-    if to < 0 {
-        os::fail(name);
-        return;
+// A file that is open for reading takes no line.
+fn trace_unwritten(rt: &HostRuntime, name: &str) {
+    if let Some(mut to) = open(rt, name) {
+        let mut input = [0u8; SIZE];
+        trace_to(rt, &mut to, name, &mut input);
     }
-    let mut input = [0u8; SIZE];
-    trace_to(to, name, &mut input);
-    libc::close(to);
 }
 
-fn main() {
-    trace_in_pieces(b"two_lines");
-    trace_in_pieces(b"crlf");
-    trace_in_pieces(b"two_clear");
-    trace_in_pieces(b"m13");
-    trace_in_pieces(b"badbyte");
-    trace_in_pieces(b"in_frame");
-    trace_in_pieces(b"half_a_burst");
-    trace_in_pieces(b"damaged");
-    trace_in_pieces(b"damaged_extended");
-    trace_in_pieces(b"damaged_second");
-    trace_in_pieces(b"damaged_start");
-    trace_in_pieces(b"unsupported");
-    trace_whole(b"dense");
+fn main(rt: HostRuntime) {
+    trace_in_pieces(&rt, "two_lines");
+    trace_in_pieces(&rt, "crlf");
+    trace_in_pieces(&rt, "two_clear");
+    trace_in_pieces(&rt, "m13");
+    trace_in_pieces(&rt, "badbyte");
+    trace_in_pieces(&rt, "in_frame");
+    trace_in_pieces(&rt, "half_a_burst");
+    trace_in_pieces(&rt, "damaged");
+    trace_in_pieces(&rt, "damaged_extended");
+    trace_in_pieces(&rt, "damaged_second");
+    trace_in_pieces(&rt, "damaged_start");
+    trace_in_pieces(&rt, "unsupported");
+    trace_whole(&rt, "dense");
     // A folder opens and cannot be read.
-    trace_whole(b".");
-    trace_unwritten(b"two_lines");
+    trace_whole(&rt, ".");
+    trace_unwritten(&rt, "two_lines");
 }

@@ -14,7 +14,7 @@ loop-k-preserved c =
     let now = c.loop-k in
     let bytes = c.args.bytes.now in
     let next = mod-add-mod (sum_below now.k (λ i. get_or bytes i 0)) (2 ^ 8) (get_or bytes now.k 0) in
-    (omega arith, c.wrapping_add_u8-sum.ensures ∙ ap (λ (s : ℕ). (s + get_or bytes now.k 0) % 2 ^ 8) now.invariant.1 ∙ next ∙ rw (add-one now.k))
+    (omega arith, c.wrapping_add_u8-sum.ensures.value ∙ ap (λ (s : ℕ). (s + get_or bytes now.k 0) % 2 ^ 8) now.invariant.1 ∙ next ∙ rw (add-one now.k))
 
 pub returns : goal.returns
 unfolding check_of

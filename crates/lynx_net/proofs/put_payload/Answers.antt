@@ -19,6 +19,6 @@ loop-i-preserved c =
       omega arith,
       length-set now.buf (4 + now.i) byte ∙ now.invariant.1,
       put_next now.buf p now.i (omega arith) ∙ now.invariant.2,
-      c.wrapping_add_u8-sum.ensures ∙ ap (λ (s : ℕ). (s + byte) % 2 ^ 8) now.invariant.3 ∙ mod-add-mod so_far (2 ^ 8) byte
+      c.wrapping_add_u8-sum.ensures.value ∙ ap (λ (s : ℕ). (s + byte) % 2 ^ 8) now.invariant.3 ∙ mod-add-mod so_far (2 ^ 8) byte
           ∙ rw (add-one now.i) (ap (λ (s : ℕ). s % 2 ^ 8) (add_assoc a.head _ _)),
     )

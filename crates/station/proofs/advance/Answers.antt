@@ -1,84 +1,56 @@
 -- `advance` meets its contract: the tests are those of `turn_of`, in its order, and what is left is the judged station's move.
 use mathlib.Core.Path.{sym, ◌∙◌}
 use Rattle.station.specs.Stations.{turn_of}
-use Rattle.ground.proofs.Causes.{ladder, fine}
+use Rattle.ground.proofs.Causes.{ladder}
+use Rattle.ground.specs.declared.Refusal.TheVariants as refusal
+use Rattle.station.specs.declared.TurnAnswer.TheVariants as turn
 use Rattle.station.proofs.SendLaws.{fault_told}
 use Rattle.station.proofs.TurnLaws.{sends_told, refuses_told, turn_promise}
 use Rattle.station.proofs.advance.Goals as goal
 
-pub returns-then-heard-gt1-clause-answer : goal.returns-then-heard-gt1-clause-answer
+pub returns-then-heard-gt1 : goal.returns-then-heard-gt1
 unfolding turn_of
-returns-then-heard-gt1-clause-answer c =
+returns-then-heard-gt1 c =
     let a = c.args in
-    (turn_promise a.s a.heard a.draw (search ladder)).0
+    let both = turn_promise {o = record { answer = turn.Refused refusal.Half; next = a.s }} a.s a.heard a.draw (search ladder) in
+    record { answer = both.0; report = both.1 }
 
-pub returns-then-heard-gt1-clause-report : goal.returns-then-heard-gt1-clause-report
+pub returns-then-not-draw_ok : goal.returns-then-not-draw_ok
 unfolding turn_of
-returns-then-heard-gt1-clause-report c =
-    let a = c.args in
-    (turn_promise a.s a.heard a.draw (search ladder)).1
-
-pub returns-then-not-draw_ok-clause-answer : goal.returns-then-not-draw_ok-clause-answer
-unfolding turn_of
-returns-then-not-draw_ok-clause-answer c =
+returns-then-not-draw_ok c =
     let a = c.args in
     let told = sends_told _ _ (sym c.sends.ensures.answer ∙ c.in-Sends.is) in
-    (turn_promise a.s a.heard a.draw (search ladder depth 8)).0
+    let both = turn_promise {o = record { answer = turn.Refused refusal.Draw; next = a.s }} a.s a.heard a.draw (search ladder depth 8) in
+    record { answer = both.0; report = both.1 }
 
-pub returns-then-not-draw_ok-clause-report : goal.returns-then-not-draw_ok-clause-report
+pub returns-then-heard-sent : goal.returns-then-heard-sent
 unfolding turn_of
-returns-then-not-draw_ok-clause-report c =
+returns-then-heard-sent c =
     let a = c.args in
     let told = sends_told _ _ (sym c.sends.ensures.answer ∙ c.in-Sends.is) in
-    (turn_promise a.s a.heard a.draw (search ladder depth 8)).1
-
-pub returns-then-heard-sent-clause-answer : goal.returns-then-heard-sent-clause-answer
-unfolding turn_of
-returns-then-heard-sent-clause-answer c =
-    let a = c.args in
-    let half = c.in-Sends.is in
-    let told = sends_told _ _ (sym c.sends.ensures.answer ∙ half) in
     let wrong = fault_told a.s a.heard told.1 c.if-heard-sent.true in
-    (turn_promise a.s a.heard a.draw (search ladder depth 8)).0
+    let both = turn_promise {o = record { answer = turn.Refused refusal.Fault; next = a.s }} a.s a.heard a.draw (search ladder depth 8) in
+    record { answer = both.0; report = both.1 }
 
-pub returns-then-heard-sent-clause-report : goal.returns-then-heard-sent-clause-report
+pub moved-requires : goal.moved-requires
+moved-requires c =
+    let told = sends_told _ _ (sym c.sends.ensures.answer ∙ c.in-Sends.is) in
+    record {
+      s_value = (told.0, sym c.draw_ok.ensures ∙ c.if-not-draw_ok.false);
+      s_value_2 = told.1;
+      sent_le_heard = (c.if-heard-sent.false, c.if-heard-gt1.false);
+    }
+
+pub returns-in-Refused : goal.returns-in-Refused
 unfolding turn_of
-returns-then-heard-sent-clause-report c =
-    let a = c.args in
-    let half = c.in-Sends.is in
-    let told = sends_told _ _ (sym c.sends.ensures.answer ∙ half) in
-    let wrong = fault_told a.s a.heard told.1 c.if-heard-sent.true in
-    (turn_promise a.s a.heard a.draw (search ladder depth 8)).1
-
-pub moved-requires-clause-s_value : goal.moved-requires-clause-s_value
-moved-requires-clause-s_value c =
-    let half = c.in-Sends.is in
-    let told = sends_told _ _ (sym c.sends.ensures.answer ∙ half) in
-    let drawn = fine c.draw_ok.ensures c.if-not-draw_ok.false in
-    ((told.0, drawn), (told.1, (c.if-heard-sent.false, c.if-heard-gt1.false)))
-
-pub moved-requires-clause-s_value_2 : goal.moved-requires-clause-s_value_2
-moved-requires-clause-s_value_2 c =
-    let half = c.in-Sends.is in
-    let told = sends_told _ _ (sym c.sends.ensures.answer ∙ half) in
-    let drawn = fine c.draw_ok.ensures c.if-not-draw_ok.false in
-    ((told.0, drawn), (told.1, (c.if-heard-sent.false, c.if-heard-gt1.false)))
-
-pub returns-in-Refused-clause-answer : goal.returns-in-Refused-clause-answer
-unfolding turn_of
-returns-in-Refused-clause-answer c =
+returns-in-Refused c =
     let a = c.args in
     let bad = refuses_told _ _ (sym c.sends.ensures.answer ∙ c.in-Refused.is) in
-    (turn_promise a.s a.heard a.draw (search ladder depth 8)).0
+    let both = turn_promise {o = record { answer = turn.Refused refusal.State; next = a.s }} a.s a.heard a.draw (search ladder depth 8) in
+    record { answer = both.0; report = both.1 }
 
-pub returns-in-Refused-clause-report : goal.returns-in-Refused-clause-report
-unfolding turn_of
-returns-in-Refused-clause-report c =
+pub returns-else-heard-sent : goal.returns-else-heard-sent
+returns-else-heard-sent c =
     let a = c.args in
-    let bad = refuses_told _ _ (sym c.sends.ensures.answer ∙ c.in-Refused.is) in
-    (turn_promise a.s a.heard a.draw (search ladder depth 8)).1
-
-pub returns-else-heard-sent-clause-report : goal.returns-else-heard-sent-clause-report
-returns-else-heard-sent-clause-report c =
-    let a = c.args in
-    (turn_promise a.s a.heard a.draw c.moved.ensures).1
+    let both = turn_promise {o = c.moved.result} a.s a.heard a.draw c.moved.ensures in
+    record { answer = both.0; report = both.1 }

@@ -35,69 +35,60 @@ returns-in-Address-clause-answer c =
     let a = c.args in
     let valid = sym c.valid.ensures ∙ c.if-not-valid.false in
     let has = sym c.has_payload.ensures ∙ c.if-not-has_payload.false in
-    let did = c.write_address.ensures in
-    (alone_written a.m _ a.buf.now c.in-Address.is valid has did.0 did.1).0
+    (alone_written a.m _ a.buf.now c.in-Address.is valid has c.write_address.ensures.value c.write_address.ensures.buf_after).0
 
 pub returns-in-Address-clause-report : goal.returns-in-Address-clause-report
 returns-in-Address-clause-report c =
     let a = c.args in
     let valid = sym c.valid.ensures ∙ c.if-not-valid.false in
     let has = sym c.has_payload.ensures ∙ c.if-not-has_payload.false in
-    let did = c.write_address.ensures in
-    (alone_written a.m _ a.buf.now c.in-Address.is valid has did.0 did.1).1.0
+    (alone_written a.m _ a.buf.now c.in-Address.is valid has c.write_address.ensures.value c.write_address.ensures.buf_after).1.0
 
 pub returns-in-Address-clause-buffer : goal.returns-in-Address-clause-buffer
 returns-in-Address-clause-buffer c =
     let a = c.args in
     let valid = sym c.valid.ensures ∙ c.if-not-valid.false in
     let has = sym c.has_payload.ensures ∙ c.if-not-has_payload.false in
-    let did = c.write_address.ensures in
-    (alone_written a.m _ a.buf.now c.in-Address.is valid has did.0 did.1).1.1
+    (alone_written a.m _ a.buf.now c.in-Address.is valid has c.write_address.ensures.value c.write_address.ensures.buf_after).1.1
 
 pub returns-in-Function-clause-answer : goal.returns-in-Function-clause-answer
 returns-in-Function-clause-answer c =
     let a = c.args in
     let valid = sym c.valid.ensures ∙ c.if-not-valid.false in
     let has = sym c.has_payload.ensures ∙ c.if-not-has_payload.false in
-    let did = c.write_function.ensures in
-    (alone_written a.m _ a.buf.now c.in-Function.is valid has did.0 did.1).0
+    (alone_written a.m _ a.buf.now c.in-Function.is valid has c.write_function.ensures.value c.write_function.ensures.buf_after).0
 
 pub returns-in-Function-clause-report : goal.returns-in-Function-clause-report
 returns-in-Function-clause-report c =
     let a = c.args in
     let valid = sym c.valid.ensures ∙ c.if-not-valid.false in
     let has = sym c.has_payload.ensures ∙ c.if-not-has_payload.false in
-    let did = c.write_function.ensures in
-    (alone_written a.m _ a.buf.now c.in-Function.is valid has did.0 did.1).1.0
+    (alone_written a.m _ a.buf.now c.in-Function.is valid has c.write_function.ensures.value c.write_function.ensures.buf_after).1.0
 
 pub returns-in-Function-clause-buffer : goal.returns-in-Function-clause-buffer
 returns-in-Function-clause-buffer c =
     let a = c.args in
     let valid = sym c.valid.ensures ∙ c.if-not-valid.false in
     let has = sym c.has_payload.ensures ∙ c.if-not-has_payload.false in
-    let did = c.write_function.ensures in
-    (alone_written a.m _ a.buf.now c.in-Function.is valid has did.0 did.1).1.1
+    (alone_written a.m _ a.buf.now c.in-Function.is valid has c.write_function.ensures.value c.write_function.ensures.buf_after).1.1
 
 pub returns-in-Extended-clause-answer : goal.returns-in-Extended-clause-answer
 returns-in-Extended-clause-answer c =
     let a = c.args in
     let valid = sym c.valid.ensures ∙ c.if-not-valid.false in
     let has = sym c.has_payload.ensures ∙ c.if-not-has_payload.false in
-    let did = c.write_extended.ensures in
-    (alone_written a.m _ a.buf.now c.in-Extended.is valid has did.0 did.1).0
+    (alone_written a.m _ a.buf.now c.in-Extended.is valid has c.write_extended.ensures.value c.write_extended.ensures.buf_after).0
 
 pub returns-in-Extended-clause-report : goal.returns-in-Extended-clause-report
 returns-in-Extended-clause-report c =
     let a = c.args in
     let valid = sym c.valid.ensures ∙ c.if-not-valid.false in
     let has = sym c.has_payload.ensures ∙ c.if-not-has_payload.false in
-    let did = c.write_extended.ensures in
-    (alone_written a.m _ a.buf.now c.in-Extended.is valid has did.0 did.1).1.0
+    (alone_written a.m _ a.buf.now c.in-Extended.is valid has c.write_extended.ensures.value c.write_extended.ensures.buf_after).1.0
 
 pub returns-in-Extended-clause-buffer : goal.returns-in-Extended-clause-buffer
 returns-in-Extended-clause-buffer c =
     let a = c.args in
     let valid = sym c.valid.ensures ∙ c.if-not-valid.false in
     let has = sym c.has_payload.ensures ∙ c.if-not-has_payload.false in
-    let did = c.write_extended.ensures in
-    (alone_written a.m _ a.buf.now c.in-Extended.is valid has did.0 did.1).1.1
+    (alone_written a.m _ a.buf.now c.in-Extended.is valid has c.write_extended.ensures.value c.write_extended.ensures.buf_after).1.1

@@ -7,7 +7,7 @@ use Rattle.station.specs.Benches.{draws_ok}
 use Rattle.station.proofs.bench.draws_fine.Given as goal
 
 abbrev pub invariant-loop-d : goal.invariant-loop-d
-invariant-loop-d l = (l.d ≤ l.n) × (draws_ok (slice l.d l.n l.draws) ≡ draws_ok (take l.n l.draws))
+invariant-loop-d l = record { within : l.d ≤ l.n; left : draws_ok (slice l.d l.n l.draws) ≡ draws_ok (take l.n l.draws) }
 
 abbrev pub decreases-loop-d : goal.decreases-loop-d
 decreases-loop-d l = l.n - l.d

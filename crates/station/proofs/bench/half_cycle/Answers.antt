@@ -1,145 +1,106 @@
 use mathlib.Core.Path.{◌≡◌, sym, subst, ◌∙◌}
 use mathlib.Core.Bool.{true, ◌&&◌, and-eq-true_iff}
-use mathlib.Core.Logic.{⊎_elim}
-use Prim.Native.Nat.{ℕ, ◌≤◌, ◌-◌}
+use mathlib.Core.List.{List}
+use Prim.Native.Nat.{ℕ, ◌≤◌}
 use native.Mathlib.Omega.{arith}
 use native.Mathlib.Numerals.{add-one}
-use borrow.Author.Tests.{leb-true, eq-eqb, not-true, not-false}
+use borrow.Author.Tests.{leb-true, eq-eqb}
 use lib.Dec.{eqb, leb}
-use lib.ListN.{length, get_or, take}
+use lib.ListN.{length, get_or, take, replicate}
 use lib.Seq.{length-take-le}
-use Rattle.ground.proofs.Causes.{ladder, fine}
+use Rattle.ground.proofs.Causes.{ladder}
+use Rattle.station.specs.declared.Station.{Station}
 use Rattle.station.proofs.SendLaws.{sends_below}
 use Rattle.station.proofs.StateLaws.{idle_told}
 use Rattle.station.proofs.TurnLaws.{sends_told, refuses_told}
 use Rattle.station.proofs.SlotLaws.{zeros, or_max, bench_promise}
-use Rattle.station.proofs.Loops.{Looked, looked_more, looked_idle, looked_bad, looked_fine, looked_line}
+use Rattle.station.proofs.Loops.{Looked, looked_none, looked_more, looked_idle, looked_bad, looked_fine, looked_line}
 use Rattle.station.proofs.bench.half_cycle.Goals as goal
+use Rattle.station.proofs.bench.half_cycle.Goals.{then-not-idle+in-Sends, else-not-idle}
 
--- how many stations there are was judged first
-counted : (c : tie.Else1 invariant-loop decreases-loop) → (leb 1 c.before.args.n && leb c.before.args.n 16) ≡ true
-counted c = not-false _ c.if1.false
+-- what the first test says: at most 16, so there are n slots and a draw for each
+few : (n : ℕ) → (leb 1 n && leb n 16) ≡ true → n ≤ 16
+few n t = leb-true n 16 ((and-eq-true_iff (leb 1 n) (leb n 16)).0 t).1
 
-few : (c : tie.Else1 invariant-loop decreases-loop) → c.before.args.n ≤ 16
-few c = let n = c.before.args.n in leb-true n 16 ((and-eq-true_iff (leb 1 n) (leb n 16)).0 (counted c)).1
-
--- there are n slots
-placed : (c : tie.Else1 invariant-loop decreases-loop) → let a = c.before.args in eqb (length (take a.n a.t1)) a.n ≡ true
-placed c =
-    let a = c.before.args in
-    eq-eqb (length (take a.n a.t1)) a.n (length-take-le a.n a.t1 (omega (arith, few c)))
-
--- there is a draw for each
-drawn : (c : tie.Else1 invariant-loop decreases-loop) → let a = c.before.args in eqb (length (take a.n a.draws)) a.n ≡ true
-drawn c =
-    let a = c.before.args in
-    eq-eqb (length (take a.n a.draws)) a.n (length-take-le a.n a.draws (omega (arith, few c)))
+placed : {A : Type 0} (n : ℕ) (xs : List A) → length xs ≡ 16 → (leb 1 n && leb n 16) ≡ true → eqb (length (take n xs)) n ≡ true
+placed n xs sixteen t = eq-eqb (length (take n xs)) n (length-take-le n xs (omega (arith, few n t)))
 
 -- after the loop all n have been heard
-heard : (c : tie.After-loop invariant-loop decreases-loop)
-    → let a = c.before.before.before.args in
-    Looked a.n a.t1 c.before.loop.line c.before.loop.sent a.n
-heard c =
-    let a = c.before.before.before.args in
-    let end : c.before.loop.k ≡ a.n = omega (arith, c.before.loop.invariant.within) in
-    subst (λ (k : ℕ). Looked a.n a.t1 c.before.loop.line c.before.loop.sent k) end c.before.loop.invariant
+heard : (n line k : ℕ) (slots : List Station) (sent : List ℕ) → n ≤ k → Looked n slots line sent k → Looked n slots line sent n
+heard n line k slots sent h r =
+    let end : k ≡ n = omega (arith, r.within) in
+    subst (λ (k : ℕ). Looked n slots line sent k) end r
 
-pub returns-then-not-n-clause-answer : goal.returns-then-not-n-clause-answer
-returns-then-not-n-clause-answer c =
+pub loop-k-init : goal.loop-k-init
+loop-k-init c =
     let a = c.args in
-    (bench_promise a.n a.t1 a.draws (search (ladder, not-true))).0
+    let sixteen : length a.slots ≡ 16 = omega arith in
+    subst (λ (k : ℕ). Looked a.n a.slots 0 (replicate k 0) 0) sixteen (looked_none a.n a.slots)
 
-pub returns-then-not-n-clause-report : goal.returns-then-not-n-clause-report
-returns-then-not-n-clause-report c =
+pub returns-then-not-n : goal.returns-then-not-n
+returns-then-not-n c =
     let a = c.args in
-    (bench_promise a.n a.t1 a.draws (search (ladder, not-true))).1
+    let told = bench_promise {o = c.refused.result} a.n a.slots a.draws (search ladder) in
+    record { answer = told.0; report = told.1 }
 
-pub returns-in-Refused-clause-answer : goal.returns-in-Refused-clause-answer
-returns-in-Refused-clause-answer c =
-    let count = counted c in
-    let here = placed c in
-    let s = get_or c.args.t1 c.loop-k.k zeros in
-    let bad = refuses_told s _ (sym c.sends.ensures.answer ∙ c.in-Refused.is) in
-    let wrong = looked_bad (omega (arith, few c)) c.loop-k-test.true zeros c.loop-k.invariant bad in
+pub returns-in-Refused : goal.returns-in-Refused
+returns-in-Refused c =
     let a = c.args in
-    (bench_promise a.n a.t1 a.draws (search ladder depth 8)).0
-
-pub returns-in-Refused-clause-report : goal.returns-in-Refused-clause-report
-returns-in-Refused-clause-report c =
-    let count = counted c in
-    let here = placed c in
-    let s = get_or c.args.t1 c.loop-k.k zeros in
-    let bad = refuses_told s _ (sym c.sends.ensures.answer ∙ c.in-Refused.is) in
-    let wrong = looked_bad (omega (arith, few c)) c.loop-k-test.true zeros c.loop-k.invariant bad in
-    let a = c.args in
-    (bench_promise a.n a.t1 a.draws (search ladder depth 8)).1
+    let count = c.if-not-n.false in
+    let here = placed a.n a.slots (omega arith) count in
+    let bad = refuses_told (get_or a.slots c.loop-k.k zeros) _ (sym c.sends.ensures.answer ∙ c.in-Refused.is) in
+    let wrong = looked_bad (omega (arith, few a.n count)) c.loop-k-test.true zeros c.loop-k.invariant bad in
+    let told = bench_promise {o = c.refused-in-Refused.result} a.n a.slots a.draws (search ladder depth 8) in
+    record { answer = told.0; report = told.1 }
 
 pub loop-k-preserved : goal.loop-k-preserved
 loop-k-preserved c =
     let a = c.args in
     let l = c.loop-k in
-    let s = get_or a.t1 l.k zeros in
-    let all : a.n ≤ length a.t1 = omega (arith, few c) in
+    let s = get_or a.slots l.k zeros in
+    let all : a.n ≤ length a.slots = omega (arith, few a.n c.if-not-n.false) in
     rw (add-one l.k)
-    (⊎_elim
-    (λ w.
-    let half = w.4.given.0.0 in
-    let told = sends_told s half (sym w.2.ensures.0 ∙ w.4.given.1) in
-    let below = subst (λ (x : ℕ). x ≤ 1) told.1 (sends_below s) in
-    rw (w.6 ∙ or_max l.line half l.invariant.half below, w.7)
-    (looked_more all c.loop-k-test.true zeros l.invariant told.0 half told.1))
-    (λ w.
-    let told = idle_told s (fine c.idle.ensures w.0.left) in
-    rw (w.1, w.2)
-    (looked_idle all c.loop-k-test.true zeros l.invariant told.0 told.1))
-    c.if-not-idle.branch)
+    (elim c.if-not-idle.branch [
+      | then-not-idle+in-Sends w ↦
+          let half = w.in-Sends.half in
+          let told = sends_told s half (sym w.sends.ensures.answer ∙ w.in-Sends.is) in
+          let below = subst (λ (x : ℕ). x ≤ 1) told.1 (sends_below s) in
+          rw (w.line-is ∙ or_max l.line half l.invariant.half below, w.sent-is)
+          (looked_more all c.loop-k-test.true zeros l.invariant told.0 half told.1)
+      | else-not-idle w ↦
+          let told = idle_told s (sym c.idle.ensures ∙ w.if-not-idle.false) in
+          rw (w.line-is, w.sent-is)
+          (looked_idle all c.loop-k-test.true zeros l.invariant told.0 told.1)
+    ])
 
-pub returns-then-not-draws_fine-clause-answer : goal.returns-then-not-draws_fine-clause-answer
-returns-then-not-draws_fine-clause-answer c =
-    let count = counted c in
-    let all = looked_fine (heard c) in
-    let here = placed c in
-    let each = drawn c in
+pub returns-then-not-draws_fine : goal.returns-then-not-draws_fine
+returns-then-not-draws_fine c =
     let a = c.args in
-    (bench_promise a.n a.t1 a.draws (search ladder depth 12)).0
+    let count = c.if-not-n.false in
+    let all = looked_fine (heard _ _ _ _ _ c.loop-k-test.false c.loop-k.invariant) in
+    let here = placed a.n a.slots (omega arith) count in
+    let each = placed a.n a.draws (omega arith) count in
+    let told = bench_promise {o = c.refused-then-not-draws_fine.result} a.n a.slots a.draws (search ladder depth 12) in
+    record { answer = told.0; report = told.1 }
 
-pub returns-then-not-draws_fine-clause-report : goal.returns-then-not-draws_fine-clause-report
-returns-then-not-draws_fine-clause-report c =
-    let count = counted c in
-    let all = looked_fine (heard c) in
-    let here = placed c in
-    let each = drawn c in
+pub move_all-requires : goal.move_all-requires
+move_all-requires c =
+    let most = few c.args.n c.if-not-n.false in
+    let all = heard _ _ _ _ _ c.loop-k-test.false c.loop-k.invariant in
+    record {
+      n_in_bounds = omega (arith, most);
+      n_in_bounds_2 = omega (arith, most);
+      slots_value = looked_fine all;
+      draws_value = sym c.draws_fine.ensures ∙ c.if-not-draws_fine.false;
+      line_value = (looked_line all, all.kept);
+    }
+
+pub returns : goal.returns
+returns c =
     let a = c.args in
-    (bench_promise a.n a.t1 a.draws (search ladder depth 12)).1
-
-pub move_all-requires-clause-slots_value : goal.move_all-requires-clause-slots_value
-move_all-requires-clause-slots_value c =
-    let most = few c in
-    let all = heard c in
-    let drawn = fine c.draws_fine.ensures c.if-not-draws_fine.false in
-    (omega (arith, most), (omega (arith, most), (looked_fine all, (drawn, (looked_line all, all.kept)))))
-
-pub move_all-requires-clause-line_value : goal.move_all-requires-clause-line_value
-move_all-requires-clause-line_value c =
-    let most = few c in
-    let all = heard c in
-    let drawn = fine c.draws_fine.ensures c.if-not-draws_fine.false in
-    (omega (arith, most), (omega (arith, most), (looked_fine all, (drawn, (looked_line all, all.kept)))))
-
-pub returns-clause-answer : goal.returns-clause-answer
-returns-clause-answer c =
-    let count = counted c in
-    let all = looked_fine (heard c) in
-    let here = placed c in
-    let each = drawn c in
-    let a = c.args in
-    (bench_promise a.n a.t1 a.draws (search ladder depth 12)).0
-
-pub returns-clause-report : goal.returns-clause-report
-returns-clause-report c =
-    let count = counted c in
-    let all = looked_fine (heard c) in
-    let here = placed c in
-    let each = drawn c in
-    let a = c.args in
-    (bench_promise a.n a.t1 a.draws (search ladder depth 12)).1
+    let count = c.if-not-n.false in
+    let all = looked_fine (heard _ _ _ _ _ c.loop-k-test.false c.loop-k.invariant) in
+    let here = placed a.n a.slots (omega arith) count in
+    let each = placed a.n a.draws (omega arith) count in
+    let told = bench_promise {o = c.move_all.result} a.n a.slots a.draws (search ladder depth 12) in
+    record { answer = told.0; report = told.1 }

@@ -1,0 +1,44 @@
+use mathlib.Core.Path.{refl, sym, ap, ◌∙◌}
+use mathlib.Core.List.{List, map}
+use Prim.Native.Nat.{ℕ, ◌+◌, ◌*◌, ◌-◌}
+use native.Mathlib.Omega.{arith}
+use lib.Seq.{sets}
+use Rattle.message.specs.declared.Message.TheVariants.{Address}
+use Rattle.lynx_net.specs.Payloads.{numbers_from}
+use Rattle.lynx_net.specs.Lists.{digit_at}
+use Rattle.packet_lent.specs.PacketBytes.{all_bytes}
+use Rattle.packet_lent.proofs.BytesLaws.{each_of, each_mapped, each_first, each_next, each_end}
+use Rattle.packet_lent.proofs.put_addresses.Invariants.{address_bytes}
+use Rattle.packet_lent.proofs.put_addresses.Goals as goal
+
+pub loop-i-init : goal.loop-i-init
+loop-i-init c =
+    let a = c.args in
+    let B = address_bytes a.ms.house a.ms.units in
+    record { within = omega arith; few = omega (arith, c.requires.0); room = c.requires.1; long = refl; bytes = each_first B 3 a.n a.out.now }
+
+pub loop-i-preserved : goal.loop-i-preserved
+loop-i-preserved c =
+    let a = c.args in
+    let now = c.loop-i in
+    let r = now.invariant in
+    let B = address_bytes a.ms.house a.ms.units in
+    let put = c.put_five.ensures in
+    let next = each_next B 3 now.i a.n now.out refl (omega arith) in
+    record {
+      within = omega arith;
+      few = r.few;
+      room = r.room;
+      long = omega (arith, r.long);
+      bytes = ap (λ (l : List ℕ). sets l (3 + 5 * (now.i + 1)) (each_of B (now.i + 1) (a.n - (now.i + 1)))) put ∙ next ∙ r.bytes;
+    }
+
+pub returns : goal.returns
+returns c =
+    let a = c.args in
+    let now = c.loop-i in
+    let B = address_bytes a.ms.house a.ms.units in
+    let all = each_mapped (λ i. Address a.ms.house (digit_at a.ms.units i)) 0 a.n in
+    let end = sym (each_end B 3 now.i a.n now.out (omega arith)) ∙ now.invariant.bytes in
+    end ∙ ap (λ (l : List ℕ). sets a.out.now 3 l) (sym all)
+    ∙ ap (λ (k : ℕ). sets a.out.now 3 (all_bytes (map (λ i. Address a.ms.house (digit_at a.ms.units i)) (numbers_from 0 k)))) c.requires.0

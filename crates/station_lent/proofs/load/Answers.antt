@@ -1,0 +1,26 @@
+-- `load` meets its contract: what `station::load` answered tells which cause applies, and none does where the station is put back.
+use Rattle.station_lent.specs.StationBytes.{loaded_answer, loaded_after}
+use Rattle.station_lent.proofs.StationLaws.{load_length, load_done, load_refused}
+use Rattle.station_lent.proofs.load.Goals as goal
+
+pub put_bytes-requires : goal.put_bytes-requires
+put_bytes-requires c =
+    let a = c.args in
+    load_length a.state.now a.m a.draw c.station_in.result c.station_in.ensures c.load-loading.result
+    (c.load-loading.ensures.answer, c.load-loading.ensures.report) c.in-Loaded.is
+
+pub returns-in-Loaded : goal.returns-in-Loaded
+unfolding loaded_answer loaded_after
+returns-in-Loaded c =
+    let a = c.args in
+    let owed = load_done a.state.now a.m a.draw c.station_in.result c.station_in.ensures c.load-loading.result
+    (c.load-loading.ensures.answer, c.load-loading.ensures.report) c.in-Loaded.is c.put_bytes.ensures in
+    record { answer = owed.0; report = owed.1.0; state = owed.1.1 }
+
+pub returns-in-Refused : goal.returns-in-Refused
+unfolding loaded_answer loaded_after
+returns-in-Refused c =
+    let a = c.args in
+    let owed = load_refused a.state.now a.m a.draw c.station_in.result c.station_in.ensures c.load-loading.result
+    (c.load-loading.ensures.answer, c.load-loading.ensures.report) _ c.in-Refused.is in
+    record { answer = owed.0; report = owed.1.0; state = owed.1.1 }
