@@ -13,11 +13,10 @@
  * number of the refusal, the first that applies in the order written at the routine. Bits 8 and up are
  * the count (x10_count). A refusal has count 0 and changes nothing that was lent.
  *
- * The routines on the two tables (x10_apply, x10_radio_route, x10_mains_route, x10_packet_route) have two
- * counts: of modules whose level differs, in bits 8 to 23 (x10_modules), and of shutters whose opening
- * differs, in bits 24 to 39 (x10_shutters); x10_count would give both as one number. Bits 40 to 55 are
- * kept for a reply, command and then data: they are 0 until a later version uses them, and so are bits 56
- * to 63. */
+ * The routines on the two tables (x10_apply, x10_radio_route, x10_mains_route) have two counts: of
+ * modules whose level differs, in bits 8 to 23 (x10_modules), and of shutters whose opening differs, in
+ * bits 24 to 39 (x10_shutters); x10_count would give both as one number. Bits 40 to 55 are kept for a
+ * reply, command and then data: they are 0 until a later version uses them, and so are bits 56 to 63. */
 
 #ifndef X10_H
 #define X10_H
@@ -31,8 +30,8 @@ extern "C" {
 
 /* The version of this header and of the library: major * 10,000 + minor * 100 + patch. While the
  * major number is 0, a minor version may change what is exported. */
-#define X10_VERSION 1600
-#define X10_VERSION_TEXT "0.16.0"
+#define X10_VERSION 1500
+#define X10_VERSION_TEXT "0.15.0"
 
 /* Numbers given back: 0, those of refusals, and of the two BROKEN events. */
 enum x10_result {
@@ -54,11 +53,7 @@ enum x10_result {
     X10_FAULT = 15,        /* a station sent 1 and heard 0 */
     X10_SHUTTER_TABLE = 16,/* the shutter table's length is not 5,120 */
     X10_SHUTTER_RECORD = 17,/* the shutter table breaks a rule */
-    X10_OPENING = 18,      /* command 01, 02, 03 or 07 with an opening or limit of 26 to 31 */
-    X10_PACKET_LENGTH = 19,/* a packet's size disagrees with its length byte, or is below 5 */
-    X10_CHECK = 20,        /* a packet's check byte is not the sum of the bytes before it */
-    X10_NETWORK = 21,      /* a packet for another network than 0x10 */
-    X10_PAYLOAD = 22       /* a payload that is of none of the forms, or a message that has none */
+    X10_OPENING = 18       /* command 01, 02, 03 or 07 with an opening or limit of 26 to 31 */
 };
 
 static inline uint8_t x10_number(uint64_t answer) { return (uint8_t)answer; }
@@ -89,10 +84,6 @@ static inline const char *x10_text(uint8_t number)
     case X10_SHUTTER_TABLE: return "SHUTTER TABLE: the shutter table's length is not 5,120";
     case X10_SHUTTER_RECORD: return "SHUTTER RECORD: the shutter table breaks a rule";
     case X10_OPENING: return "OPENING: an opening above 25";
-    case X10_PACKET_LENGTH: return "PACKET LENGTH: size and length byte disagree, or below 5 bytes";
-    case X10_CHECK: return "CHECK: the check byte is not the sum of the bytes before it";
-    case X10_NETWORK: return "NETWORK: a packet for another network than 0x10";
-    case X10_PAYLOAD: return "PAYLOAD: of none of the forms, or a message that has none";
     default: return "";
     }
 }
@@ -327,78 +318,6 @@ static inline uint64_t x10_answer_at(const uint8_t *answers, size_t i)
     for (size_t k = 8; k > 0; k--) answer = answer << 8 | answers[8 * i + k - 1];
     return answer;
 }
-
-/* A LynX-NET packet is the network, which is 0x10 for X-10; node and sequence, which are any byte; the
- * length of the payload; the payload; and a check byte, which is the sum of all bytes before it modulo 256.
- *
- * A payload is a code byte and what the code has. Houses and units are numbers 0 to 15 there too, and FF
- * closes the units, also where there are none. The forms are these, with the code in hexadecimal:
- *
- *   08 house units FF        1 to 16 units: an address for each, in their order, repeated ones too.
- *   12 house units FF        On, 13 off; none to 16 units: their addresses, and then the function.
- *   1F house units FF        Status request; none or one unit: its address, and then the function.
- *   10 house FF              All units off.
- *   11 house FF              All lights on.
- *   16 house FF              All lights off.
- *   1D house FF              Status on.
- *   1E house FF              Status off.
- *   20 FF                    All units off for each house, A to P: sixteen messages.
- *   21 FF                    All lights off for each house.
- *   22 FF                    All lights on for each house.
- *   B0 house unit FF data    The extended message with command 30.
- *   B1 house unit FF data    The extended message with command 31. */
-enum x10_code {
-    X10_CODE_ADDRESS = 0x08,
-    X10_CODE_ALL_UNITS_OFF = 0x10,
-    X10_CODE_ALL_LIGHTS_ON = 0x11,
-    X10_CODE_ON = 0x12,
-    X10_CODE_OFF = 0x13,
-    X10_CODE_ALL_LIGHTS_OFF = 0x16,
-    X10_CODE_STATUS_ON = 0x1D,
-    X10_CODE_STATUS_OFF = 0x1E,
-    X10_CODE_STATUS_REQUEST = 0x1F,
-    X10_CODE_EVERY_UNIT_OFF = 0x20,
-    X10_CODE_EVERY_LIGHT_OFF = 0x21,
-    X10_CODE_EVERY_LIGHT_ON = 0x22,
-    X10_CODE_JOIN = 0xB0,
-    X10_CODE_LEVEL = 0xB1,
-    X10_CODE_END = 0xFF    /* no code: what closes the units */
-};
-
-/* Where the payload begins in a packet, and the messages in what x10_packet_read writes; the bytes of the
- * longest packet that there is, of all that x10_packet_read may write, and of the longest payload of one
- * message; and the messages of the longest list. */
-#define X10_PAYLOAD_AT 4
-#define X10_MESSAGES_AT 3
-#define X10_LONGEST_PACKET 24
-#define X10_LONGEST_READ 88
-#define X10_MESSAGE_PAYLOAD 5
-#define X10_MOST_MESSAGES 17
-
-/* Reads a packet. At the front of out stand node, sequence and the length of the payload, which itself
- * stands in the packet from X10_PAYLOAD_AT on; then the payload's messages in their order, message i in the
- * five bytes at out + X10_MESSAGES_AT + 5 * i. Bytes beyond them stay. Count: messages, 1 to 17. Refusals,
- * in this order: 19, where packet_len disagrees with the length byte or is below 5; 20, for the check byte;
- * 21, for another network; 22, for a payload of none of the forms; 9, where out_len is below
- * 3 + 5 * count. */
-uint64_t x10_packet_read(const uint8_t *packet, size_t packet_len, uint8_t *out, size_t out_len);
-
-/* Writes a packet at the front of out; bytes beyond it stay. Count: bytes written, payload_len + 5.
- * Refusals, in this order: 22, for a payload of none of the forms; 9, where out_len is below the count. */
-uint64_t x10_packet_write(uint8_t node, uint8_t sequence, const uint8_t *payload, size_t payload_len,
-                          uint8_t *out, size_t out_len);
-
-/* Writes the payload that means this message alone at the front of out; bytes beyond it stay. Count: its
- * bytes, 3 to 5. Refusals, in this order: 2; 22, for a message that has none, which is dim, bright, hail
- * request, hail acknowledge, and an extended message with another command than 30 and 31; 9, where out_len
- * is below the count. */
-uint64_t x10_payload(uint8_t kind, uint8_t house, uint8_t third, uint8_t data, uint8_t command,
-                     uint8_t *out, size_t out_len);
-
-/* Applies the messages of a packet to both tables in their order, all or none. Counts: as x10_apply has
- * them, before and after the whole. Refusals, in this order: 1, 16, 3, 17, 19, 20, 21, 22. */
-uint64_t x10_packet_route(uint8_t *table, size_t len, uint8_t *shutters, size_t shutters_len,
-                          const uint8_t *packet, size_t packet_len);
 
 #ifdef __cplusplus
 }

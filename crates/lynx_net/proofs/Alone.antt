@@ -2,7 +2,7 @@
 --
 --     Told, form_told     a form tells its code byte, its function and its command
 --     means_it_alone, no_other_means_it, messages_valid, one_to_seventeen
-use Rattle.std.proofs.Common.{◌≡◌, ℕ, zero, suc, ◌+◌, ◌-◌, ◌<◌, ◌≤◌, Bool, true, false, ◌&&◌, ◌||◌, eqb, leb, List, [], ◌∷◌, ◌++◌, map, length, get_or, take, drop, sym, refl, ap, ◌∙◌, subst, ap₂, le_of_suc-le-suc, arith, length-append, eqb-true, le-leb, leb-true}
+use Rattle.std.proofs.Common.{◌≡◌, ℕ, zero, suc, ◌+◌, ◌-◌, ◌<◌, ◌≤◌, Bool, true, false, ◌&&◌, ◌||◌, eqb, leb, List, [], ◌∷◌, ◌++◌, map, length, get_or, sym, refl, ap, ◌∙◌, subst, ap₂, arith, length-append, eqb-true, le-leb}
 use mathlib.Core.Bool.{and-eq-true_iff, false≢true}
 use lib.ListN.{length-map}
 use Rattle.ground.specs.Choice.{pick}
@@ -10,7 +10,6 @@ use Rattle.ground.specs.Records.{all_below}
 use Rattle.ground.proofs.Choices.{both}
 use Rattle.ground.proofs.Lists.{bytes_whole}
 use Rattle.message.specs.Codes.{function_code}
-use Rattle.message.specs.Messages.{message_ok}
 use Rattle.message.specs.declared.Function.{Function}
 use Rattle.message.specs.declared.Function.TheVariants.{AllUnitsOff, AllLightsOn, On, Off, Dim, Bright, AllLightsOff, HailRequest, HailAcknowledge}
 use Rattle.message.specs.declared.Function.TheVariants.{StatusOn, StatusOff, StatusRequest}
@@ -18,7 +17,7 @@ use Rattle.message.specs.declared.Message.{Message}
 use Rattle.message.specs.declared.Message.TheVariants.{Address, Function as Command, Extended}
 use Rattle.lynx_net.specs.declared.payload.Form.{Form}
 use Rattle.lynx_net.specs.declared.payload.Form.TheVariants.{Addresses, Units, ExtendedCode, EveryHouse, Unknown}
-use Rattle.lynx_net.specs.Payloads.{CLOSE, form_of, form_in, house_in, units_in, units_fit, numbers_from, houses, closed_units, closed_extended, closed_alone}
+use Rattle.lynx_net.specs.Payloads.{CLOSE, form_of, form_in, house_in, units_in, numbers_from, closed_units, closed_extended}
 use Rattle.lynx_net.specs.Payloads.{fits_form, payload_ok, messages_by, messages_of, payload_of, function_sent, has_payload}
 use Rattle.lynx_net.specs.Statements.{MeansItAlone, NoOtherMeansIt, AllValid, MessagesValid, OneToSeventeen}
 use Rattle.lynx_net.proofs.FormLaws.{AtMost16, most_of, units_parts, units_length, extended_length}

@@ -7,12 +7,10 @@
 --     too_short                                                no payload has fewer than two bytes
 --     most_of                                            no form has more than sixteen units
 --     payload_length                                           no payload has more than 19 bytes
-use Rattle.std.proofs.Common.{◌≡◌, ℕ, ◌-◌, ◌<◌, ◌≤◌, Bool, true, false, ◌&&◌, eqb, leb, List, length, get_or, take, drop, sym, refl, ap, ◌∙◌, subst, arith, length-drop, length-take-le, eq-eqb, ne_eqb, eqb-true, le-leb, leb-true}
+use Rattle.std.proofs.Common.{◌≡◌, ℕ, ◌-◌, ◌<◌, ◌≤◌, Bool, true, false, ◌&&◌, eqb, leb, List, length, get_or, take, drop, refl, ap, arith, length-drop, length-take-le, eq-eqb, ne_eqb, eqb-true, le-leb, leb-true}
 use mathlib.Core.Bool.{and-false, and-eq-true_iff, false≢true}
 use borrow.Author.Tests.{lt-leb}
-use Rattle.ground.specs.Choice.{pick}
 use Rattle.ground.proofs.Choices.{pick_both}
-use Rattle.message.specs.declared.Function.{Function}
 use Rattle.lynx_net.specs.declared.payload.Form.{Form}
 use Rattle.lynx_net.specs.declared.payload.Form.TheVariants.{Addresses, Units, ExtendedCode, EveryHouse, Unknown}
 use Rattle.lynx_net.specs.Payloads.{CLOSE, form_of, form_in, house_in, units_in, units_fit, closed_units, closed_extended, closed_alone, fits_form, payload_ok}

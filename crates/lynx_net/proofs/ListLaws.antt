@@ -9,21 +9,18 @@
 --     listed_held                            the value that is read of a payload has the payload's messages
 --     answered, not_answered                 what a payload's reader answers
 --     payload_told, no_payload_told          what that answer tells
-use Rattle.std.proofs.Common.{◌≡◌, ℕ, zero, suc, ◌+◌, ◌-◌, ◌*◌, ◌/◌, ◌%◌, ◌^◌, ◌<◌, ◌≤◌, min, Bool, true, false, ◌&&◌, eqb, leb, List, [], ◌∷◌, ◌++◌, map, length, get_or, take, drop, sym, refl, ap, ◌∙◌, ap₂, append-nil, le_of_suc-le-suc, not-suc-le-zero, add-zero, add-suc, mod-eq_of_lt, suc-add, pow-suc, zero-add, mul-suc, add-one, sub-one, arith, lit<, length-append, length-drop, length-take, get_or-drop, drop-cons, shr-shr, eqb-true, leb-true}
-use mathlib.Core.Bool.{and-eq-true_iff, false≢true}
+use Rattle.std.proofs.Common.{◌≡◌, ℕ, zero, suc, ◌+◌, ◌-◌, ◌*◌, ◌/◌, ◌^◌, ◌<◌, ◌≤◌, min, Bool, true, false, leb, List, [], ◌∷◌, ◌++◌, map, length, get_or, drop, sym, refl, ap, ◌∙◌, ap₂, append-nil, le_of_suc-le-suc, not-suc-le-zero, add-zero, add-suc, suc-add, pow-suc, zero-add, sub-one, arith, lit<, length-append, length-drop, get_or-drop, drop-cons, shr-shr, leb-true}
 use native.Mathlib.Nat.{pow-le-pow_right}
-use native.Mathlib.Nat.{mod-add-mod, mul-add-div_right, div-eq_of_lt, div-div-eq-div-mul, mul-mod_left, add-mod}
 use lib.Seq.{drop-length}
 use Rattle.ground.specs.Choice.{pick}
-use Rattle.ground.specs.Records.{all_below}
 use Rattle.ground.proofs.Records.{below_at}
-use Rattle.ground.specs.Refusals.{unless, judged, reports, refuses}
+use Rattle.ground.specs.Refusals.{judged, reports, refuses}
 use Rattle.ground.specs.declared.Refusal.{Refusal}
 use Rattle.ground.specs.declared.Refusal.TheVariants as refusal
 use Rattle.ground.proofs.Causes.{judged_map, judged_same, none_stops}
 use Rattle.message.specs.declared.Function.{Function}
 use Rattle.message.specs.declared.Message.{Message}
-use Rattle.message.specs.declared.Message.TheVariants.{Address, Function as Command, Extended}
+use Rattle.message.specs.declared.Message.TheVariants.{Address, Function as Command}
 use Rattle.lynx_net.specs.declared.payload.Form.{Form}
 use Rattle.lynx_net.specs.declared.payload.Form.TheVariants.{Addresses, Units, ExtendedCode, EveryHouse, Unknown}
 use Rattle.lynx_net.specs.declared.payload.Ending.{Ending}
@@ -32,7 +29,7 @@ use Rattle.lynx_net.specs.declared.payload.Messages.{Messages}
 use Rattle.lynx_net.specs.declared.payload.MessageAt.TheVariants.{Message as At, Beyond}
 use Rattle.lynx_net.specs.declared.payload.PayloadRead.{PayloadRead}
 use Rattle.lynx_net.specs.declared.payload.PayloadRead.TheVariants as read
-use Rattle.lynx_net.specs.Payloads.{numbers_from, form_in, house_in, units_in, units_fit, closed_units, fits_form, payload_ok, messages_by, messages_of}
+use Rattle.lynx_net.specs.Payloads.{numbers_from, form_in, house_in, units_in, units_fit, fits_form, payload_ok, messages_by, messages_of}
 use Rattle.lynx_net.proofs.FormLaws.{AtMost16, most_of, units_parts, units_length}
 use Rattle.lynx_net.specs.Lists.{number_of, digit_at, ending_list, unit_count, addresses_of, listed, nth, held_by, held_in, payload_causes, payload_answer, payload_report}
 

@@ -8,7 +8,7 @@
 --     packet_length, packet_laid     a packet in the buffer
 --     size_small, size_other, size_right, payload_between      what the length byte says
 --     causes_passed, read_reported, packet_told      the number and the parts by the causes, and what they tell
-use Rattle.std.proofs.Common.{◌≡◌, ℕ, zero, suc, ◌+◌, ◌-◌, ◌%◌, ◌^◌, ◌<◌, ◌≤◌, Bool, true, false, ◌||◌, eqb, leb, List, [], ◌∷◌, ◌++◌, length, get_or, take, drop, set, sym, refl, ap, ◌∙◌, ap₂, add_assoc, add-suc, add-one, arith, length-append, drop-cons, eq-eqb, ne_eqb, eqb-true, le-leb}
+use Rattle.std.proofs.Common.{◌≡◌, ℕ, zero, suc, ◌+◌, ◌-◌, ◌%◌, ◌^◌, ◌<◌, ◌≤◌, Bool, true, false, ◌||◌, eqb, leb, List, [], ◌∷◌, ◌++◌, length, get_or, take, drop, set, sym, refl, ap, ◌∙◌, add_assoc, add-suc, add-one, arith, length-append, drop-cons, eq-eqb, ne_eqb, eqb-true, le-leb}
 use mathlib.Core.Bool.{and-false}
 use borrow.Author.Tests.{lt-leb}
 use lib.Seq.{sets, drop-length}

@@ -1,16 +1,14 @@
 -- The theorems of specs/Statements.antt: the order of the causes, 02's packets, and reading after writing, both ways.
-use Rattle.std.proofs.Common.{◌≡◌, ℕ, suc, ◌+◌, ◌-◌, ◌≤◌, Bool, true, false, ◌&&◌, eqb, leb, List, [], ◌∷◌, ◌++◌, length, get_or, take, drop, sym, refl, ap, ◌∙◌, ap₂, add-one, arith, length-take-le, take_all, take-suc, take_at, eq-eqb, eqb-true, le-leb, leb-true}
-use mathlib.Core.Bool.{and-eq-true_iff, false≢true}
+use Rattle.std.proofs.Common.{◌≡◌, ℕ, suc, ◌+◌, ◌-◌, ◌≤◌, true, eqb, leb, List, [], ◌∷◌, ◌++◌, length, get_or, take, drop, sym, refl, ap, ◌∙◌, arith, length-take-le, take_all, take-suc, take_at, eq-eqb, eqb-true, le-leb, leb-true}
+use mathlib.Core.Bool.{and-eq-true_iff}
 use lib.Seq.{get_or_at}
-use Rattle.ground.specs.Refusals.{judged, number_given, reports, refuses}
+use Rattle.ground.specs.Refusals.{judged, number_given, reports}
 use Rattle.ground.specs.Records.{sum_below, all_below}
 use Rattle.ground.proofs.Causes.{none_stops}
-use Rattle.lynx_net.specs.declared.Packet.{Packet}
-use Rattle.lynx_net.specs.declared.PacketRead.TheVariants as read
 use Rattle.lynx_net.specs.Payloads.{form_of, closed_units, payload_ok, messages_of}
 use Rattle.lynx_net.specs.Lists.{number_of, listed}
-use Rattle.lynx_net.specs.Packets.{NETWORK, check_of, before_check, packet_of, size_ok, check_ok, network_ok, payload_in, read_causes, packet_in, read_answer}
-use Rattle.lynx_net.specs.Packets.{Parts, parts_of, parts_told, read_report, buffer_after}
+use Rattle.lynx_net.specs.Packets.{NETWORK, check_of, before_check, packet_of, size_ok, check_ok, network_ok, payload_in, read_causes, read_answer}
+use Rattle.lynx_net.specs.Packets.{Parts, parts_of, read_report, buffer_after}
 use Rattle.lynx_net.specs.Statements.{ReadOrder, WriteOrder, AloneOrder, PacketExamples, WrittenRead, ReadWritten}
 use Rattle.lynx_net.proofs.PacketLaws.{packet_length, read_reported, packet_told}
 

@@ -13,7 +13,7 @@ use Rattle.lynx_net.specs.declared.payload.MessageAt.{MessageAt}
 use Rattle.lynx_net.specs.declared.payload.MessageAt.TheVariants.{Message as At, Beyond}
 use Rattle.lynx_net.specs.declared.payload.PayloadRead.{PayloadRead}
 use Rattle.lynx_net.specs.declared.payload.PayloadRead.TheVariants as read
-use Rattle.lynx_net.specs.Payloads.{form_in, house_in, units_in, numbers_from, houses, payload_ok, messages_of}
+use Rattle.lynx_net.specs.Payloads.{form_in, house_in, units_in, numbers_from, houses, payload_ok}
 
 -- ---- units as one number
 

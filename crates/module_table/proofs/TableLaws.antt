@@ -1,17 +1,17 @@
 -- Laws of a module table's bytes: how the records lie in them, the houses' own bytes beside them, and an act run. What holds of any table of
 -- records is in ground's Records.
 --
---     modules_laid, record_sound                        what holds of any table of records holds of a module table's
---     preset_at, reference_at, judged_group, read_four                a record's presets and references, from where they lie
---     step_keeps, step_sound                            every act keeps to it
---     four_stored, stored                               a record put by its parts
---     zeros_ok, zeros_dark                              a record of zeros keeps the rules, at level 0
---     length-put_house, byte_put_house, record_put_house, house_put_own, house_put_other       records and houses' own bytes do not meet
---     lit_ext, lit_put_house                            the number of lit modules is made of the records alone
---     lit_next, lit_put, lit_none                       one unit more; a record put behind those counted; no level above 0
---     by_houses                                         a table is judged house by house
---     changed_ext, changed_none                         ground's laws, of the count of changed levels
---     ran                                               an act run on a table
+--     modules_laid, record_sound                                                          what holds of any table of records holds of a module table's
+--     preset_at, reference_at, judged_group, read_four                                    a record's presets and references, from where they lie
+--     step_keeps, step_sound                                                              every act keeps to it
+--     four_stored, stored                                                                 a record put by its parts
+--     zeros_ok, zeros_dark                                                                a record of zeros keeps the rules, at level 0
+--     length-put_house, byte_put_house, record_put_house, house_put_own, house_put_other  records and houses' own bytes do not meet
+--     lit_ext, lit_put_house                                                              the number of lit modules is made of the records alone
+--     lit_next, lit_put, lit_none                                                         one unit more; a record put behind those counted; no level above 0
+--     by_houses                                                                           a table is judged house by house
+--     changed_ext, changed_none                                                           ground's laws, of the count of changed levels
+--     ran                                                                                 an act run on a table
 use mathlib.Core.Path.{◌≡◌, refl, sym, ap, ap₂, subst, ◌∙◌}
 use mathlib.Core.Bool.{Bool, true, ◌&&◌, and_assoc, and_comm}
 use mathlib.Core.List.{List, []}

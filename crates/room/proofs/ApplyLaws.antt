@@ -1,14 +1,14 @@
 -- Laws of applying a message.
 --
---     house_below, unit_below    the house of a valid message, and the unit that its motion names, are of the sixteen
---     Valid, valid_parts, modules_size, shutters_size    the four parts of a valid room
---     room_fine, fine_room      it has no cause of a route's
---     by_verdict, fine_valid    what the verdict of `judge` says
---     run_by, move_by, refused_by    what `apply_valid` owes by each plan
---     Outcome, outcome          a message is refused and the room stays, an act is run, or a motion
---     apply_reported            the number and the counts by the causes
---     valid_stays, apply_order, counts_packed      statements of specs/Statements
---     unchanged, counts_are     the counts between a room and itself, and between the two rooms
+--     house_below, unit_below                          the house of a valid message, and the unit that its motion names, are of the sixteen
+--     Valid, valid_parts, modules_size, shutters_size  the four parts of a valid room
+--     room_fine, fine_room                             it has no cause of a route's
+--     by_verdict, fine_valid                           what the verdict of `judge` says
+--     run_by, move_by, refused_by                      what `apply_valid` owes by each plan
+--     Outcome, outcome                                 a message is refused and the room stays, an act is run, or a motion
+--     apply_reported                                   the number and the counts by the causes
+--     valid_stays, apply_order, counts_packed          statements of specs/Statements
+--     unchanged, counts_are                            the counts between a room and itself, and between the two rooms
 use mathlib.Core.Path.{◌≡◌, refl, sym, ap, ap₂, subst, ◌∙◌}
 use mathlib.Core.Bool.{Bool, true, false, ◌||◌, false≢true, and-eq-true_iff}
 use mathlib.Core.List.{List, ◌++◌}

@@ -1,18 +1,18 @@
 -- Laws of the mains route.
 --
---     room-append, answers_append, answers_length     events one after the other, in two parts
---     given_valid                          a message given leaves a valid room valid
---     zero_put, stretch_put                a byte of 0 behind others; the answers to a stretch
---     stretch_room, stretch_answers_lem        what the events of a stretch make of the room, and their answers
---     quiet                                half-cycles that give no message
---     remains_end                          nothing is left to take
---     remains_valid, remains_ok            a valid room stays so, and so does a receiver
---     given_some, remains_quiet            a message is given, or none
---     Turn, Turned, turn                   one turn: a stretch is taken, and its message applied
---     route_done, route_owed               what the route leaves and owes where nothing is refused
---     route_faulty, route_stopped          what it owes where the room is refused, or what else is lent
---     put_held                             the receiver put back
---     mains_order                          MainsOrder
+--     room-append, answers_append, answers_length  events one after the other, in two parts
+--     given_valid                                  a message given leaves a valid room valid
+--     zero_put, stretch_put                        a byte of 0 behind others; the answers to a stretch
+--     stretch_room, stretch_answers_lem            what the events of a stretch make of the room, and their answers
+--     quiet                                        half-cycles that give no message
+--     remains_end                                  nothing is left to take
+--     remains_valid, remains_ok                    a valid room stays so, and so does a receiver
+--     given_some, remains_quiet                    a message is given, or none
+--     Turn, Turned, turn                           one turn: a stretch is taken, and its message applied
+--     route_done, route_owed                       what the route leaves and owes where nothing is refused
+--     route_faulty, route_stopped                  what it owes where the room is refused, or what else is lent
+--     put_held                                     the receiver put back
+--     mains_order                                  MainsOrder
 use mathlib.Core.Path.{◌≡◌, refl, sym, ap, ap₂, subst, ◌∙◌}
 use mathlib.Core.Bool.{true, false, false≢true}
 use mathlib.Core.List.{List, [], ◌∷◌, ◌++◌, append_assoc, append-nil, flat_map}

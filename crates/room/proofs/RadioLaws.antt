@@ -1,10 +1,10 @@
 -- Laws of the radio route: what its functions owe at each return.
 --
---     meant, means_some         the messages of a valid command
---     two_obeyed, one_obeyed    a radio command's messages applied
---     read_obeyed, not_read     what the reader answered, applied
---     not_judged                what the route owes where the tables are refused
---     radio_reported, radio_order       the number and the counts by the causes; RadioOrder
+--     meant, means_some            the messages of a valid command
+--     two_obeyed, one_obeyed       a radio command's messages applied
+--     read_obeyed, not_read        what the reader answered, applied
+--     not_judged                   what the route owes where the tables are refused
+--     radio_reported, radio_order  the number and the counts by the causes; RadioOrder
 use mathlib.Core.Path.{◌≡◌, refl, sym, ap, subst, ◌∙◌}
 use mathlib.Core.Bool.{true}
 use mathlib.Core.List.{List, [], ◌∷◌, head-eq_of_cons-eq}

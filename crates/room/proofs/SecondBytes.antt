@@ -1,9 +1,9 @@
 -- The second byte of each record of a table, kept in a list, and compared with those of a table after it.
 --
---     SecondBytesOf, second_bytes_next     the second bytes of a table's first records
---     second_within               where such a byte lies
---     changed_next                one more record compared with the byte kept of it
---     levels_are, openings_are    of modules they are the levels, of shutters the openings
+--     SecondBytesOf, second_bytes_next  the second bytes of a table's first records
+--     second_within                     where such a byte lies
+--     changed_next                      one more record compared with the byte kept of it
+--     levels_are, openings_are          of modules they are the levels, of shutters the openings
 use mathlib.Core.Path.{◌≡◌, refl, sym, ap, ap₂, subst, ◌∙◌}
 use mathlib.Core.List.{List}
 use Prim.Native.Nat.{ℕ, ◌+◌, ◌*◌, ◌≤◌, ◌<◌}

@@ -1,6 +1,7 @@
 // A room: its lent module table and shutter table, judged once, and a message applied to them.
 
 #![tactic(auto)]
+
 ghost use Rattle.std.specs.Prelude.{◌≡◌, true};
 ghost use Rattle.room.specs.Rooms.{room_of, room_ok, room_after, apply_answer, apply_report, room_report, tallied};
 ghost use Rattle.room.specs.Lent.{room_verdict, levels_answer, openings_answer};

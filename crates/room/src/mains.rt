@@ -69,8 +69,8 @@ fn put_answer(answers: &mut [u8], at: usize, answer: u64)
 // Applies the message given, if any, and answers as one number what the tables answered.
 fn answer_to(table: &mut [u8], shutters: &mut [u8], given: Given) -> u64
     requires { room_ok (room_of table.old shutters.old) ≡ true }
-    ensures value { result ≡ answer_given given (room_of table.old shutters.old) }
-    ensures shutters_after { room_of table.new shutters.new ≡ room_given given (room_of table.old shutters.old) }
+    ensures answer { result ≡ answer_given given (room_of table.old shutters.old) }
+    ensures room { room_of table.new shutters.new ≡ room_given given (room_of table.old shutters.old) }
 {
     match given {
         Given::No => 0,
@@ -100,8 +100,8 @@ fn answer_stretch(
     given: Given,
 )
     requires { (room_ok (room_of table.old shutters.old) ≡ true) × (from < to) × (8 * to ≤ length answers.old) }
-    ensures shutters_after { room_of table.new shutters.new ≡ room_given given (room_of table.old shutters.old) }
-    ensures answers_after { answers.new ≡ sets answers.old (8 * from)
+    ensures room { room_of table.new shutters.new ≡ room_given given (room_of table.old shutters.old) }
+    ensures written { answers.new ≡ sets answers.old (8 * from)
         (stretch_answers (to - from) given (room_of table.old shutters.old)) }
 {
     no_answers(answers, from, to - 1);
@@ -168,9 +168,9 @@ fn heed_all(
     answers: &mut [u8],
 ) -> Heeded
     requires { Prepared r halves.now 0 (room_of table.old shutters.old) events.old answers.old }
-    ensures answers_after { remains result.next (room_of table.new shutters.new) events.new answers.new
+    ensures left { remains result.next (room_of table.new shutters.new) events.new answers.new
         ≡ remains_by halves.now r 0 (room_of table.old shutters.old) events.old answers.old }
-    ensures changes_value { result.changes ≡ changes (room_of table.old shutters.old) (room_of table.new shutters.new) }
+    ensures counts { result.changes ≡ changes (room_of table.old shutters.old) (room_of table.new shutters.new) }
 {
     let stretch = run_to_message(r, halves, 0, events);
     let answer = stretch.answer;

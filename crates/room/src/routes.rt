@@ -24,8 +24,8 @@ fn changes_of(a: RoomAnswer) -> Changes
 // Applies the messages of a radio command. An address changes no level and no opening, so the last message's counts are those of both.
 fn obey(table: &mut [u8], shutters: &mut [u8], k: RadioCommand) -> Changes
     requires { (room_ok (room_of table.old shutters.old) ≡ true) × (command_ok k ≡ true) }
-    ensures value { result ≡ changes (room_of table.old shutters.old) (room_of table.new shutters.new) }
-    ensures shutters_after { room_of table.new shutters.new ≡ room_after_all (messages_of k) (room_of table.old shutters.old) }
+    ensures counts { result ≡ changes (room_of table.old shutters.old) (room_of table.new shutters.new) }
+    ensures room { room_of table.new shutters.new ≡ room_after_all (messages_of k) (room_of table.old shutters.old) }
 {
     match messages(k) {
         RadioMessages::Two(first, second) => {

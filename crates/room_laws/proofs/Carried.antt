@@ -1,6 +1,6 @@
 -- A route leaves what its messages leave: call by call where the room is valid, and where it is not every call is refused.
 --
---     count_all                  the counts of messages applied one after the other
+--     count_all                 the counts of messages applied one after the other
 --     heard_all                 what events leave of a room is what their messages leave
 --     carried                   what a route leaves and counts, by its messages
 --     demand_2, no_more         the theorems of specs/Demand2.antt
@@ -182,7 +182,7 @@ heard_all (e ∷ es) room = go (given_by e) (heard_all es)
     go (Yes m) later = later (room_after m room)
 
 -- the counts in an answer's eight bytes
-small_number : (why : Refusal) → refusal_number why ≤ 18
+small_number : (why : Refusal) → refusal_number why ≤ 22
 small_number refusal.Table = omega arith
 small_number refusal.Message = omega arith
 small_number refusal.Record = omega arith
@@ -199,6 +199,10 @@ small_number refusal.Fault = omega arith
 small_number refusal.ShutterTable = omega arith
 small_number refusal.ShutterRecord = omega arith
 small_number refusal.Opening = omega arith
+small_number refusal.PacketLength = omega arith
+small_number refusal.Check = omega arith
+small_number refusal.Network = omega arith
+small_number refusal.Payload = omega arith
 
 -- a number below 2 ^ 40 in eight bytes, and back
 above : (x d : ℕ) → x < 2 ^ 40 → 2 ^ 40 ≤ d → x / d ≡ 0
@@ -226,8 +230,8 @@ number_back x small =
     )
     (simp add-zero all)
 
--- counts of at most 256 and a number of at most 18, as one number and back
-counted_back : (n m k : ℕ) → n ≤ 256 → m ≤ 256 → k ≤ 18
+-- counts of at most 256 and a number of at most 22, as one number and back
+counted_back : (n m k : ℕ) → n ≤ 256 → m ≤ 256 → k ≤ 22
     → changes_in (answer_bytes ((n % 2 ^ 16 + m % 2 ^ 16 * 2 ^ 16) % 2 ^ 56 * 256 + k)) ≡ record { levels = n; openings = m }
 counted_back n m k few shut small =
     let low : (n % 2 ^ 16 + m % 2 ^ 16 * 2 ^ 16) % 2 ^ 56 * 256 + k ≡ n * 2 ^ 8 + m * 2 ^ 24 + k = omega arith in

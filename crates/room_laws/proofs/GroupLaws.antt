@@ -2,7 +2,7 @@
 --
 --     member_present                       a member of a group is there
 --     reached_does, unreached_stays        one that is reached does what is asked, and another stays as it is
---     execute_plan_lem, step_plan_lem              36 and 3C ask for a group command
+--     execute_plan_lem, step_plan_lem      36 and 3C ask for a group command
 --     after_is                             a record of the house after an extended message that asks for an act
 --     groups_alone                         of a message that asks for groups alone, all else stays
 --     who_is_reached, what_is_joined       WhoIsReached, WhatIsJoined

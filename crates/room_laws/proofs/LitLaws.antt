@@ -3,9 +3,8 @@
 --     lit_stays_true, own_lit_only     LitStaysTrue, OwnLitOnly
 --     all_off_all_on                   AllOffAllOn
 use mathlib.Core.Path.{◌≡◌, refl, ap, ◌∙◌}
-use mathlib.Core.Bool.{Bool, true, false, ◌&&◌, and-eq-true_iff}
-use mathlib.Core.List.{List}
-use Prim.Native.Nat.{ℕ, ◌+◌, ◌*◌, ◌/◌, ◌≤◌, ◌<◌}
+use mathlib.Core.Bool.{Bool, true, false, ◌&&◌}
+use Prim.Native.Nat.{ℕ, ◌+◌, ◌*◌, ◌/◌, ◌<◌}
 use native.Mathlib.Omega.{arith}
 use borrow.Author.Tests.{eqb-true, ne_eqb, le-leb}
 use lib.Dec.{eqb, leb}
@@ -31,7 +30,7 @@ use Rattle.room.specs.Rooms.{Room, room_ok, room_after}
 use Rattle.room.specs.Routes.{room_after_all}
 use Rattle.room.proofs.ApplyLaws.{valid_parts, valid_stays, house_below, Outcome, stays, did, moved, outcome}
 use Rattle.room_laws.specs.Statements.{own_byte}
-use Rattle.room_laws.specs.Lit.{LitStaysTrue, OwnLitOnly, present_in, AllOffAllOn}
+use Rattle.room_laws.specs.Lit.{LitStaysTrue, OwnLitOnly, AllOffAllOn}
 use Rattle.room_laws.proofs.Theorems.{own_house_only}
 use Rattle.room_laws.proofs.Carried.{all_stay}
 use Rattle.room_laws.proofs.Press.{done}

@@ -1,19 +1,19 @@
 -- Laws of a shutter table.
 --
---     shutters_laid                                       ShuttersLaid
---     mark_at_lem, opening_at_lem                         a shutter's marks and openings, from where they lie
---     judged_absent, judged_fields, judged_styles         what is answered of an absent shutter, and of another
---     eight_stored, stored, fields_stored                 a shutter put by its parts
---     eight_sound, sound_eight                            a shutter is sound exactly where its marks and openings are eight each
---     step_keeps, after_keeps                             a motion leaves a sound shutter sound
---     moved_keeps, moved_stored                           a motion that leaves the lifestyles
---     zeros_ok                                            a shutter of zeros keeps the rules
---     each_shutter                                        EachShutter
---     stepped_at, absent_at                               one shutter stepped
---     run_of                                              the places that a motion covers, each stepped, are the table after it
---     Whole, whole_table                                  what a valid table is
+--     shutters_laid                                                 ShuttersLaid
+--     mark_at_lem, opening_at_lem                                   a shutter's marks and openings, from where they lie
+--     judged_absent, judged_fields, judged_styles                   what is answered of an absent shutter, and of another
+--     eight_stored, stored, fields_stored                           a shutter put by its parts
+--     eight_sound, sound_eight                                      a shutter is sound exactly where its marks and openings are eight each
+--     step_keeps, after_keeps                                       a motion leaves a sound shutter sound
+--     moved_keeps, moved_stored                                     a motion that leaves the lifestyles
+--     zeros_ok                                                      a shutter of zeros keeps the rules
+--     each_shutter                                                  EachShutter
+--     stepped_at, absent_at                                         one shutter stepped
+--     run_of                                                        the places that a motion covers, each stepped, are the table after it
+--     Whole, whole_table                                            what a valid table is
 --     shutters_stay_valid, own_shutters_only, openings_at_most_256  ShuttersStayValid, OwnShuttersOnly, OpeningsAtMost256
---     openings_none                                       a table that is left has no opening that differs
+--     openings_none                                                 a table that is left has no opening that differs
 use mathlib.Core.Path.{◌≡◌, refl, sym, ap, subst, ◌∙◌}
 use mathlib.Core.Bool.{Bool, true, false, ◌&&◌, true≢false, false≢true, and-eq-true_iff}
 use mathlib.Core.List.{List, [], ◌∷◌}

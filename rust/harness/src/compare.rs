@@ -7,7 +7,6 @@ mod bench;
 mod burst;
 mod lit;
 mod mains;
-mod packet;
 mod radio;
 mod receive;
 mod station;
@@ -27,7 +26,7 @@ use x10_model::tables::Counts;
 /// All routines. `size` 1 is the usual run; the seed of each routine is made of the one given.
 pub fn all(seed: u64, size: usize) -> Vec<Tally> {
     type Compared = fn(&mut Rng, usize) -> Tally;
-    let routines: [Compared; 14] = [
+    let routines: [Compared; 10] = [
         burst::burst,
         receive::receiver_fresh,
         receive::receive,
@@ -38,10 +37,6 @@ pub fn all(seed: u64, size: usize) -> Vec<Tally> {
         bench::bench_run,
         radio::radio_route,
         mains::mains_route,
-        packet::packet_read,
-        packet::packet_write,
-        packet::payload,
-        packet::packet_route,
     ];
     let compare = |(i, routine): (usize, &Compared)| routine(&mut Rng::new(seed ^ (i as u64) << 56), size);
     let mut tallies: Vec<Tally> = routines.iter().enumerate().map(compare).collect();

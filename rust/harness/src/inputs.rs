@@ -1,14 +1,12 @@
-//! Inputs for the comparison and for the timing: messages, lines, receivers, stations, packets, tables and
-//! benches, valid and damaged.
+//! Inputs for the comparison and for the timing: messages, lines, receivers, stations, tables and benches,
+//! valid and damaged.
 
 mod groups;
 mod lit;
-mod packet;
 mod shutters;
 
 pub use groups::{group_presses, joined_and_called, ABSOLUTE, REFERENCES, TABLE_BEFORE};
 pub use lit::{count_lit, lit_lamps, lit_of, HEARD, LIT};
-pub use packet::{check, every_payload, packet, packet_or_not, payload, payload_or_not, put_check_right};
 pub use shutters::{damage_shutters, shutter, shutters, type_0, SHUTTER, SHUTTER_TABLE};
 
 use crate::rng::Rng;

@@ -165,7 +165,6 @@ pub fn all(seed: u64, rounds: usize, only: Option<usize>) -> Vec<Row> {
     guest_house(seed, &mut rows);
     lit(&mut rows);
     groups(seed, &start, &mut rows);
-    packets(seed, &mut rows);
     rows.rows
 }
 
@@ -330,19 +329,14 @@ fn type_0(seed: u64, start: &Start, rows: &mut Rows) {
     apply(start, &begins, "256 shutters, begin lifestyle, a call", rows);
 }
 
-/// The tables of a guest house as it is: modules at all units of house A and at six of house B, shutters
-/// at eight of house A, and nothing in the other houses.
-fn guest_tables(rng: &mut Rng, seed: u64) -> Start {
+/// A guest house as it is: modules at all units of house A and at six of house B, shutters at eight of
+/// house A, and nothing in the other houses.
+fn guest_house(seed: u64, rows: &mut Rows) {
+    let rng = &mut Rng::new(seed ^ 0xA2);
     let mut start = Start { table: full_table(rng), shutters: full_shutters(seed) };
     start.table[22 * RECORD..].fill(0);
     inputs::count_lit(&mut start.table);
     start.shutters[8 * SHUTTER..].fill(0);
-    start
-}
-
-fn guest_house(seed: u64, rows: &mut Rows) {
-    let rng = &mut Rng::new(seed ^ 0xA2);
-    let start = guest_tables(rng, seed);
     let messages: Vec<[u8; 5]> = (0..256).map(|_| inputs::message(rng)).collect();
     apply(&start, &messages, "22 modules and 8 shutters, mixed messages, a call", rows);
 }
@@ -386,71 +380,6 @@ fn groups(seed: u64, start: &Start, rows: &mut Rows) {
         .map(|_| [3, rng.below(16) as u8, rng.below(16) as u8, rng.byte(), rng.pick(&[0x36, 0x3C])])
         .collect();
     apply(start, &calls, "256 modules, groups called, a call", rows);
-}
-
-/// Packets of one message and of sixteen units, read and written; payloads of messages that have one; and
-/// packets for the tables of a guest house: house A off and on by sixteen units, and every house off.
-fn packets(seed: u64, rows: &mut Rows) {
-    let rng = &mut Rng::new(seed ^ 0xA6);
-    let units =
-        |code| [&[code, 0][..], &std::array::from_fn::<u8, 16, _>(|unit| unit as u8), &[0xFF]].concat();
-    let (off, on) = (units(0x13), units(0x12));
-    packet(&[0x1D, 0, 0xFF], ["8 bytes read, one message, a call", "8 bytes written, a call"], rows);
-    packet(&on, ["24 bytes read, 16 units and on, a call", "24 bytes written, a call"], rows);
-
-    let has_one = |message: &[u8; 5]| bytes::payload(*message, &mut [0; 5]).is_ok();
-    let mut messages = std::iter::repeat_with(|| inputs::message(rng));
-    let messages: Vec<[u8; 5]> = messages.by_ref().filter(has_one).take(1024).collect();
-    row!(
-        rows,
-        "payload",
-        "mixed messages that have one, a call",
-        messages.len(),
-        [0; 5],
-        |_| {},
-        |out, lib| {
-            for &message in black_box(&messages) {
-                _ = black_box(&lib::payload(message.into(), black_box(out)));
-            }
-        }
-    );
-
-    let start = guest_tables(rng, seed);
-    let by_units = [off, on].map(|payload| inputs::packet(0, 0, &payload));
-    packet_route(&start, &by_units, "22 modules and 8 shutters, 16 units off or on, a call", rows);
-    let every_house = [inputs::packet(0, 0, &[0x20, 0xFF])];
-    packet_route(&start, &every_house, "22 modules and 8 shutters, every house off, a call", rows);
-}
-
-/// A packet with this payload, read and written.
-fn packet(payload: &[u8], [read, written]: [&'static str; 2], rows: &mut Rows) {
-    let packet = inputs::packet(0, 0x9E, payload);
-    row!(rows, "packet_read", read, 1, [0; 88], |_| {}, |out, lib| {
-        _ = black_box(&lib::packet_read(black_box(&packet), black_box(out)));
-    });
-    row!(rows, "packet_write", written, 1, [0; 24], |_| {}, |out, lib| {
-        _ = black_box(&lib::packet_write(0, black_box(0x9E), black_box(payload), black_box(out)));
-    });
-}
-
-fn packet_route(start: &Start, packets: &[Vec<u8>], timed: &'static str, rows: &mut Rows) {
-    row!(
-        rows,
-        "packet_route",
-        timed,
-        packets.len(),
-        start.clone(),
-        |lent: &mut Start| lent.put(start),
-        |lent, lib| {
-            for packet in black_box(packets) {
-                _ = black_box(&lib::packet_route(
-                    black_box(&mut lent.table),
-                    black_box(&mut lent.shutters),
-                    packet,
-                ));
-            }
-        }
-    );
 }
 
 fn apply(start: &Start, messages: &[[u8; 5]], timed: &'static str, rows: &mut Rows) {

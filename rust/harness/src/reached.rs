@@ -3,17 +3,11 @@
 
 mod groups;
 mod lit;
-mod packet;
 mod shutters;
 
 pub use groups::{grouped, reference_broken, CALLED, CALLED_BY, JOINED, LEFT, REFERENCE_BROKEN};
 pub use lit::{asked, asked_of, house, lit_broken, lit_form, lit_move};
 pub use lit::{ASKED, HOUSES, LIT_BROKEN, LIT_FORMS, LIT_MOVES, LIT_ORDERS};
-pub use packet::{
-    carries, check_wrong, every_house, messages, no_payload, payload, payload_of, routed, size, CARRIES,
-    EVERY_HOUSE, MESSAGES, NO_PAYLOAD, PACKET_ORDERS, PACKET_ROUTE_ORDERS, PAYLOADS, PAYLOAD_OF,
-    PAYLOAD_ORDERS, READ_ORDERS, ROUTED, SIZES,
-};
 pub use shutters::{beside, broken, shutter_count, type_0};
 pub use shutters::{BESIDE, BROKEN, SHUTTER_COUNTS, SHUTTER_LENGTHS, TYPE_0};
 

@@ -13,7 +13,6 @@
 use crate::bench;
 use crate::burst::write_burst;
 use crate::message::{Function, Message, Refusal};
-use crate::packet::{self, Packet};
 use crate::radio::Command;
 use crate::receiver::{Event, Receiver};
 use crate::routes::{self, Mains};
@@ -220,34 +219,6 @@ pub fn radio_read(code: &[u8], out: &mut [u8]) -> Result<usize, Refusal> {
     Ok(3)
 }
 
-/// Reads a packet as node, sequence and the payload's length at the front of `out`, and then its messages;
-/// count: messages. 19, 20, 21, 22, 9.
-#[inline(never)]
-pub fn packet_read(packet: &[u8], out: &mut [u8]) -> Result<usize, Refusal> {
-    let Packet { node, sequence, bytes, payload } = Packet::read(packet)?;
-    let (head, messages) = out.split_first_chunk_mut().ok_or(Refusal::Short)?;
-    let mut messages = front::<MESSAGE>(messages, payload.count())?.iter_mut();
-    *head = [node, sequence, bytes.len() as u8];
-    payload.each(|message| {
-        if let Some(entry) = messages.next() {
-            *entry = message_bytes(message);
-        }
-    });
-    Ok(payload.count())
-}
-
-/// Writes a packet at the front of `out`; count: its bytes. 22, 9.
-#[inline(never)]
-pub fn packet_write(node: u8, sequence: u8, payload: &[u8], out: &mut [u8]) -> Result<usize, Refusal> {
-    packet::write(node, sequence, payload, out)
-}
-
-/// Writes the payload that means a message alone at the front of `out`; count: its bytes. 2, 22, 9.
-#[inline(never)]
-pub fn payload(numbers: [u8; MESSAGE], out: &mut [u8]) -> Result<usize, Refusal> {
-    packet::write_payload(message(numbers)?, out)
-}
-
 /// Applies a message to both tables; counts: records whose level, and shutters whose opening, differs.
 /// 1, 16, 2, 3, 17, 4, 18.
 #[inline(never)]
@@ -371,13 +342,6 @@ fn calls(stations: &mut [Station], draws: &[u8], lines: &mut [u8], marks: &mut [
 #[inline(never)]
 pub fn radio_route(table: &mut [u8], shutters: &mut [u8], code: &[u8]) -> Result<Counts, Refusal> {
     routes::radio(table, shutters, code)
-}
-
-/// Applies all messages of a packet or none; counts: as `apply`, before and after the whole. 1, 16, 3, 17,
-/// 19, 20, 21, 22.
-#[inline(never)]
-pub fn packet_route(table: &mut [u8], shutters: &mut [u8], packet: &[u8]) -> Result<Counts, Refusal> {
-    routes::packet(table, shutters, packet)
 }
 
 /// One step of a receiver for each half-cycle, as `receive` does it, and each message that it gives

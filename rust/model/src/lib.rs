@@ -1,8 +1,8 @@
-//! X-10 messages, frames, the receiver, stations, radio bytes, LynX-NET packets and the tables of modules
-//! and shutters in plain Rust.
+//! X-10 messages, frames, the receiver, stations, radio bytes and the tables of modules and shutters in
+//! plain Rust.
 //!
-//! Written from the scope paper, requests A1 to A3, A5 and A6, docs/receiver.md and include/x10.h without
-//! the Rattle code, so that it can be held against the proved library: where the two differ, one of
+//! Written from the scope paper, requests A1 to A3 and A5, docs/receiver.md and include/x10.h without the
+//! Rattle code, so that it can be held against the proved library: where the two differ, one of
 //! them misreads the paper. Two changes were made with the Rattle code known: the array of 124 for
 //! a burst, and the awaited half-cycle that goes to the hunt.
 //!
@@ -15,7 +15,6 @@ pub mod bytes;
 #[cfg(test)]
 mod drawn;
 pub mod message;
-pub mod packet;
 pub mod radio;
 pub mod receiver;
 pub mod routes;

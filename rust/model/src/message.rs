@@ -21,10 +21,6 @@ pub enum Refusal {
     ShutterTable = 16,
     ShutterRecord = 17,
     Opening = 18,
-    PacketLength = 19,
-    Check = 20,
-    Network = 21,
-    Payload = 22,
 }
 
 /// Four-bit line codes of houses A to P, and of units 1 to 16.

@@ -1,7 +1,6 @@
-//! The three ways to the tables: a radio code, a LynX-NET packet, and half-cycles of the mains.
+//! The two ways to the tables: a radio code, and half-cycles of the mains.
 
 use crate::message::Refusal;
-use crate::packet::{Packet, Payload};
 use crate::radio::Command;
 use crate::receiver::{Event, Receiver};
 use crate::tables::{Counts, Seen, Tables};
@@ -19,30 +18,6 @@ pub fn radio(modules: &mut [u8], shutters: &mut [u8], code: &[u8]) -> Result<Cou
     }
     modules.act(function);
     Ok(Counts { modules: modules.recount(house, &before), shutters: 0 })
-}
-
-/// Applies the messages of a packet, all or none: refusals 1, 16, 3, 17, 19, 20, 21 and 22 in this order.
-/// Counts before and after the whole. Tables carry each message that a packet can have, and none moves a
-/// shutter.
-pub fn packet(modules: &mut [u8], shutters: &mut [u8], packet: &[u8]) -> Result<Counts, Refusal> {
-    let mut tables = Tables::valid(modules, shutters)?;
-    let payload = Packet::read(packet)?.payload;
-    let modules = tables.modules();
-    let mut changed = 0;
-    match payload {
-        Payload::House { house, .. } | Payload::Extended { house, .. } => {
-            let before = modules.levels(house);
-            payload.each(|message| modules.act(message));
-            changed = modules.recount(house, &before);
-        }
-        // One message for each house, so no level is counted twice.
-        Payload::EveryHouse(_) => payload.each(|message| {
-            let before = modules.levels(message.house());
-            modules.act(message);
-            changed += modules.recount(message.house(), &before);
-        }),
-    }
-    Ok(Counts { modules: changed, shutters: 0 })
 }
 
 /// What the receiver made of a half-cycle, 5 or its event, and what the tables made of the message

@@ -72,30 +72,4 @@ unsafe extern "C" {
         answers: *mut u8,
         answers_len: usize,
     ) -> u64;
-    pub fn x10_packet_read(packet: *const u8, packet_len: usize, out: *mut u8, out_len: usize) -> u64;
-    pub fn x10_packet_write(
-        node: u8,
-        sequence: u8,
-        payload: *const u8,
-        payload_len: usize,
-        out: *mut u8,
-        out_len: usize,
-    ) -> u64;
-    pub fn x10_payload(
-        kind: u8,
-        house: u8,
-        third: u8,
-        data: u8,
-        command: u8,
-        out: *mut u8,
-        out_len: usize,
-    ) -> u64;
-    pub fn x10_packet_route(
-        table: *mut u8,
-        len: usize,
-        shutters: *mut u8,
-        shutters_len: usize,
-        packet: *const u8,
-        packet_len: usize,
-    ) -> u64;
 }

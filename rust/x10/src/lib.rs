@@ -1,4 +1,4 @@
-//! The static library `x10` for Rust programs: a safe function for each of its eighteen routines.
+//! The static library `x10` for Rust programs: a safe function for each of its fourteen routines.
 //!
 //! The library is target/staticlib/libx10.a, which `rt staticlib x10` writes. A package that depends
 //! on this one by path is linked with it.
@@ -47,16 +47,6 @@
 //! let answer = x10::apply(&mut table, &mut shutters, Message::extended(0, 0, 0, 0x05));
 //! assert_eq!((answer.number(), answer.modules(), answer.shutters()), (x10::number::OK, 0, 1));
 //! assert_eq!(shutters[p16 + x10::shutter::OPENING], 25);
-//!
-//! // The same "all lights on" as a LynX-NET packet for node 0, and what it says when it is read.
-//! let mut payload = [0; x10::MESSAGE_PAYLOAD];
-//! let len = x10::payload(on, &mut payload).count() as usize;
-//! let mut packet = [0; x10::LONGEST_PACKET];
-//! let len = x10::packet_write(0, 0x12, &payload[..len], &mut packet).count() as usize;
-//! assert_eq!(packet[..len], [0x10, 0x00, 0x12, 0x03, 0x11, 0x00, 0xFF, 0x35]);
-//! let mut read = [0; x10::LONGEST_READ];
-//! assert_eq!(x10::packet_read(&packet[..len], &mut read).count(), 1);
-//! assert_eq!((read[0], read[1], Message::at(&read, 0)), (0, 0x12, on));
 //! ```
 
 mod abi;
@@ -246,52 +236,6 @@ pub fn mains_route(
             events.len(),
             answers.as_mut_ptr(),
             answers.len(),
-        )
-    })
-}
-
-/// Reads a LynX-NET packet: node, sequence and the payload's length are the first three bytes of `out`,
-/// and the payload's messages follow, one after the other ([`Message::at`]). The payload itself stands in
-/// the packet from [`PAYLOAD_AT`] on. Count: messages, 1 to [`MOST_MESSAGES`]. Refusals: 19, 20, 21, 22, 9.
-#[inline]
-pub fn packet_read(packet: &[u8], out: &mut [u8]) -> Answer {
-    Answer::from_bits(unsafe {
-        abi::x10_packet_read(packet.as_ptr(), packet.len(), out.as_mut_ptr(), out.len())
-    })
-}
-
-/// Writes a LynX-NET packet with this payload ([`code`] says which there are) at the front of `out`. Node
-/// and sequence are any byte. Count: bytes written, five more than the payload has. Refusals: 22, 9.
-#[inline]
-pub fn packet_write(node: u8, sequence: u8, payload: &[u8], out: &mut [u8]) -> Answer {
-    Answer::from_bits(unsafe {
-        abi::x10_packet_write(node, sequence, payload.as_ptr(), payload.len(), out.as_mut_ptr(), out.len())
-    })
-}
-
-/// Writes the payload that means this message alone at the front of `out`. Count: its bytes, 3 to
-/// [`MESSAGE_PAYLOAD`]. Refusals: 2; 22, for a message that has none: dim, bright, both hails, and an
-/// extended message with another command than 30 and 31; 9.
-#[inline]
-pub fn payload(message: Message, out: &mut [u8]) -> Answer {
-    let Message { kind, house, third, data, command } = message;
-    Answer::from_bits(unsafe {
-        abi::x10_payload(kind, house, third, data, command, out.as_mut_ptr(), out.len())
-    })
-}
-
-/// Applies the messages of a LynX-NET packet to both tables in their order, all or none. Modules and
-/// shutters: as [`apply`] has them, before and after the whole. Refusals: 1, 16, 3, 17, 19, 20, 21, 22.
-#[inline]
-pub fn packet_route(table: &mut [u8], shutters: &mut [u8], packet: &[u8]) -> Answer {
-    Answer::from_bits(unsafe {
-        abi::x10_packet_route(
-            table.as_mut_ptr(),
-            table.len(),
-            shutters.as_mut_ptr(),
-            shutters.len(),
-            packet.as_ptr(),
-            packet.len(),
         )
     })
 }

@@ -43,14 +43,6 @@ pub mod number {
     pub const SHUTTER_RECORD: u8 = 17;
     /// Command 01, 02, 03 or 07 with an opening or limit of 26 to 31.
     pub const OPENING: u8 = 18;
-    /// A packet's size disagrees with its length byte, or is below 5.
-    pub const PACKET_LENGTH: u8 = 19;
-    /// A packet's check byte is not the sum of the bytes before it.
-    pub const CHECK: u8 = 20;
-    /// A packet for another network than 0x10.
-    pub const NETWORK: u8 = 21;
-    /// A payload that is of none of the forms, or a message that has none.
-    pub const PAYLOAD: u8 = 22;
 }
 
 /// What a number given back says, in words; "" for a number that is none.
@@ -75,10 +67,6 @@ pub const fn text(number: u8) -> &'static str {
         number::SHUTTER_TABLE => "SHUTTER TABLE: the shutter table's length is not 5,120",
         number::SHUTTER_RECORD => "SHUTTER RECORD: the shutter table breaks a rule",
         number::OPENING => "OPENING: an opening above 25",
-        number::PACKET_LENGTH => "PACKET LENGTH: size and length byte disagree, or below 5 bytes",
-        number::CHECK => "CHECK: the check byte is not the sum of the bytes before it",
-        number::NETWORK => "NETWORK: a packet for another network than 0x10",
-        number::PAYLOAD => "PAYLOAD: of none of the forms, or a message that has none",
         _ => "",
     }
 }
@@ -206,40 +194,6 @@ pub const fn shutter_at(house: u8, unit: u8) -> usize {
     (house as usize * 16 + unit as usize) * SHUTTER_BYTES
 }
 
-/// The first byte of a LynX-NET payload: what follows it, and which messages it then stands for.
-pub mod code {
-    /// House, 1 to 16 units and [`END`]: the units as addresses, in their order, repeated ones too.
-    pub const ADDRESS: u8 = 0x08;
-    /// House and [`END`].
-    pub const ALL_UNITS_OFF: u8 = 0x10;
-    /// House and [`END`].
-    pub const ALL_LIGHTS_ON: u8 = 0x11;
-    /// House, none to 16 units and [`END`]: the units as addresses, and then the function.
-    pub const ON: u8 = 0x12;
-    /// As [`ON`].
-    pub const OFF: u8 = 0x13;
-    /// House and [`END`].
-    pub const ALL_LIGHTS_OFF: u8 = 0x16;
-    /// House and [`END`].
-    pub const STATUS_ON: u8 = 0x1D;
-    /// House and [`END`].
-    pub const STATUS_OFF: u8 = 0x1E;
-    /// House, none or one unit and [`END`]: the unit as address, and then the function.
-    pub const STATUS_REQUEST: u8 = 0x1F;
-    /// [`END`] alone: all units off for each house, A to P.
-    pub const EVERY_UNIT_OFF: u8 = 0x20;
-    /// [`END`] alone: all lights off for each house.
-    pub const EVERY_LIGHT_OFF: u8 = 0x21;
-    /// [`END`] alone: all lights on for each house.
-    pub const EVERY_LIGHT_ON: u8 = 0x22;
-    /// House, one unit, [`END`] and the data byte: the extended message with command 30.
-    pub const JOIN: u8 = 0xB0;
-    /// As [`JOIN`], with command 31.
-    pub const LEVEL: u8 = 0xB1;
-    /// What closes a payload's units, also where there are none.
-    pub const END: u8 = 0xFF;
-}
-
 /// Bytes of a message in lent memory.
 pub const MESSAGE_BYTES: usize = 5;
 /// Half-cycles of the longest burst.
@@ -266,16 +220,3 @@ pub const SHUTTER_TABLE_BYTES: usize = 5120;
 pub const SHUTTER_BYTES: usize = 20;
 /// Stations of the largest bench.
 pub const MOST_STATIONS: usize = 16;
-/// Where the payload begins in a LynX-NET packet.
-pub const PAYLOAD_AT: usize = 4;
-/// Where the messages begin in what [`crate::packet_read`] writes: node, sequence and the payload's length
-/// stand before them.
-pub const MESSAGES_AT: usize = 3;
-/// Bytes of the longest packet that there is.
-pub const LONGEST_PACKET: usize = 24;
-/// Bytes of all that [`crate::packet_read`] may write.
-pub const LONGEST_READ: usize = 88;
-/// Bytes of the longest payload of one message.
-pub const MESSAGE_PAYLOAD: usize = 5;
-/// Messages of a packet that has the most.
-pub const MOST_MESSAGES: usize = 17;

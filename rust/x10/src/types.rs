@@ -1,6 +1,6 @@
 //! What the routines take and give beside numbers and bytes.
 
-use crate::names::{ANSWER_BYTES, EVENT_BYTES, MESSAGE_BYTES, MESSAGES_AT, event, kind};
+use crate::names::{ANSWER_BYTES, EVENT_BYTES, MESSAGE_BYTES, event, kind};
 use std::fmt;
 
 /// What a routine gives back: one number of 64 bits.
@@ -81,11 +81,6 @@ impl Message {
     pub const fn extended(house: u8, unit: u8, data: u8, command: u8) -> Message {
         Message { kind: kind::EXTENDED, house, third: unit, data, command }
     }
-
-    /// Message `i` of those that [`crate::packet_read`] left in `out`, which has that many.
-    pub fn at(out: &[u8], i: usize) -> Message {
-        Message::from(nth(&out[MESSAGES_AT..], i))
-    }
 }
 
 /// From its bytes in lent memory.
@@ -165,8 +160,5 @@ mod tests {
         let message = Message::extended(1, 2, 3, 4);
         assert_eq!(<[u8; MESSAGE_BYTES]>::from(message), [3, 1, 2, 3, 4]);
         assert_eq!(Message::from([1, 5, 6, 0, 0]), Message::address(5, 6));
-        let read = [0, 1, 4, 1, 2, 3, 0, 0, 2, 2, 2, 0, 0];
-        assert_eq!(Message::at(&read, 0), Message::address(2, 3));
-        assert_eq!(Message::at(&read, 1), Message::function(2, function::ON));
     }
 }

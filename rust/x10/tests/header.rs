@@ -35,10 +35,6 @@ fn binding_numbers() -> BTreeMap<&'static str, usize> {
         SHUTTER_TABLE: number::SHUTTER_TABLE,
         SHUTTER_RECORD: number::SHUTTER_RECORD,
         OPENING: number::OPENING,
-        PACKET_LENGTH: number::PACKET_LENGTH,
-        CHECK: number::CHECK,
-        NETWORK: number::NETWORK,
-        PAYLOAD: number::PAYLOAD,
         ADDRESS: kind::ADDRESS,
         FUNCTION: kind::FUNCTION,
         EXTENDED: kind::EXTENDED,
@@ -98,27 +94,6 @@ fn binding_numbers() -> BTreeMap<&'static str, usize> {
         HEARD_AT: HEARD_AT,
         LIT_AT: LIT_AT,
         MOST_STATIONS: MOST_STATIONS,
-        CODE_ADDRESS: code::ADDRESS,
-        CODE_ALL_UNITS_OFF: code::ALL_UNITS_OFF,
-        CODE_ALL_LIGHTS_ON: code::ALL_LIGHTS_ON,
-        CODE_ON: code::ON,
-        CODE_OFF: code::OFF,
-        CODE_ALL_LIGHTS_OFF: code::ALL_LIGHTS_OFF,
-        CODE_STATUS_ON: code::STATUS_ON,
-        CODE_STATUS_OFF: code::STATUS_OFF,
-        CODE_STATUS_REQUEST: code::STATUS_REQUEST,
-        CODE_EVERY_UNIT_OFF: code::EVERY_UNIT_OFF,
-        CODE_EVERY_LIGHT_OFF: code::EVERY_LIGHT_OFF,
-        CODE_EVERY_LIGHT_ON: code::EVERY_LIGHT_ON,
-        CODE_JOIN: code::JOIN,
-        CODE_LEVEL: code::LEVEL,
-        CODE_END: code::END,
-        PAYLOAD_AT: PAYLOAD_AT,
-        MESSAGES_AT: MESSAGES_AT,
-        LONGEST_PACKET: LONGEST_PACKET,
-        LONGEST_READ: LONGEST_READ,
-        MESSAGE_PAYLOAD: MESSAGE_PAYLOAD,
-        MOST_MESSAGES: MOST_MESSAGES,
     }
 }
 
@@ -128,18 +103,11 @@ fn header_numbers() -> BTreeMap<&'static str, usize> {
     let words: Vec<&str> = HEADER.split(parted).filter(|word| !word.is_empty()).collect();
     let named = words.windows(3).filter_map(|words| match words {
         [name, "=", number] | ["#define", name, number] if name.starts_with("X10_") => {
-            Some((*name, number_of(number)?))
+            Some((*name, number.parse().ok()?))
         }
         _ => None,
     });
     named.collect()
-}
-
-fn number_of(word: &str) -> Option<usize> {
-    match word.strip_prefix("0x") {
-        Some(digits) => usize::from_str_radix(digits, 16).ok(),
-        None => word.parse().ok(),
-    }
 }
 
 #[test]
@@ -168,7 +136,7 @@ fn texts(function: &str) -> BTreeMap<usize, &'static str> {
 fn the_texts() {
     let numbers = texts("*x10_text(uint8_t number)");
     let functions = texts("*x10_function_name(uint8_t code)");
-    assert_eq!((numbers.len(), functions.len()), (23, 12));
+    assert_eq!((numbers.len(), functions.len()), (19, 12));
     for n in 0..=255 {
         assert_eq!(text(n), numbers.get(&usize::from(n)).copied().unwrap_or(""));
         assert_eq!(function_name(n), functions.get(&usize::from(n)).copied().unwrap_or(""));
@@ -188,13 +156,6 @@ fn where_shutters_begin() {
     assert_eq!((shutter_at(0, 0), shutter_at(0, 15), shutter_at(1, 0)), (0, 300, 320));
     assert_eq!(shutter_at(15, 15) + SHUTTER_BYTES, SHUTTER_TABLE_BYTES);
     assert_eq!(shutter::OPENINGS + 8, SHUTTER_BYTES);
-}
-
-#[test]
-fn how_long_packets_are() {
-    // The code byte, a house, sixteen units and what closes them, between four bytes and one.
-    assert_eq!(PAYLOAD_AT + (1 + 1 + 16 + 1) + 1, LONGEST_PACKET);
-    assert_eq!(MESSAGES_AT + MESSAGE_BYTES * MOST_MESSAGES, LONGEST_READ);
 }
 
 /// A parameter of the header as Rust writes it.
@@ -225,6 +186,6 @@ fn declared(text: &str, before: &str, after: &str, written: fn(&str) -> String) 
 #[test]
 fn every_routine_of_the_header() {
     let header = declared(HEADER, "\nuint64_t ", ");", in_rust);
-    assert_eq!(header.len(), 18);
+    assert_eq!(header.len(), 14);
     assert_eq!(declared(ABI, "pub fn ", ") -> u64;", str::to_string), header);
 }

@@ -1,4 +1,4 @@
-use Rattle.std.proofs.Common.{◌≡◌, ℕ, ◌+◌, ◌-◌, ◌%◌, ◌^◌, length, get_or, refl, ap, ◌∙◌, add-one, arith}
+use Rattle.std.proofs.Common.{◌≡◌, ℕ, ◌+◌, ◌%◌, ◌^◌, length, get_or, refl, ap, ◌∙◌, add-one, arith}
 use native.Mathlib.Nat.{mod-add-mod}
 use Rattle.ground.specs.Records.{sum_below}
 use Rattle.lynx_net.specs.Packets.{check_of}

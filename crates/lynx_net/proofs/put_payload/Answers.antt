@@ -1,4 +1,4 @@
-use Rattle.std.proofs.Common.{ℕ, ◌+◌, ◌-◌, ◌%◌, ◌^◌, get_or, refl, ap, ◌∙◌, add_assoc, add-one, arith, length-set}
+use Rattle.std.proofs.Common.{ℕ, ◌+◌, ◌%◌, ◌^◌, get_or, refl, ap, ◌∙◌, add_assoc, add-one, arith, length-set}
 use native.Mathlib.Nat.{mod-add-mod}
 use Rattle.ground.specs.Records.{sum_below}
 use Rattle.lynx_net.proofs.PacketLaws.{put_next}

@@ -1,11 +1,11 @@
 -- `read` meets its contract: its tests are its causes, in their order, and what is left is the payload's reader.
-use Rattle.std.proofs.Common.{◌≡◌, ◌-◌, true, false, length, get_or, sym, ap, ◌∙◌, eq-eqb, ne_eqb}
+use Rattle.std.proofs.Common.{◌≡◌, true, false, get_or, sym, ap, ◌∙◌, eq-eqb, ne_eqb}
 use Rattle.ground.proofs.Causes.{ladder}
 use Rattle.lynx_net.specs.declared.PacketRead.TheVariants as read
 use Rattle.lynx_net.specs.declared.payload.Messages.{Messages}
 use Rattle.lynx_net.specs.Payloads.{payload_ok}
 use Rattle.lynx_net.specs.Lists.{payload_answer}
-use Rattle.lynx_net.specs.Packets.{check_of, check_ok, payload_in, read_answer, read_report}
+use Rattle.lynx_net.specs.Packets.{check_ok, payload_in, read_answer, read_report}
 use Rattle.lynx_net.proofs.ListLaws.{payload_told, no_payload_told}
 use Rattle.lynx_net.proofs.PacketLaws.{size_small, size_other, size_right, payload_between, read_reported}
 use Rattle.lynx_net.proofs.read.Goals as goal

@@ -1,5 +1,5 @@
 -- `write` meets its contract: a payload of no form is its first cause, and what is left is its callee's.
-use Rattle.std.proofs.Common.{false, [], ◌∷◌, sym, ◌∙◌}
+use Rattle.std.proofs.Common.{[], ◌∷◌, sym, ◌∙◌}
 use Rattle.ground.specs.Refusals.{unless, judged}
 use Rattle.ground.specs.declared.Refusal.TheVariants as refusal
 use Rattle.ground.proofs.Causes.{ladder}

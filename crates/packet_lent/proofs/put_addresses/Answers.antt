@@ -7,15 +7,9 @@ use Rattle.message.specs.declared.Message.TheVariants.{Address}
 use Rattle.lynx_net.specs.Payloads.{numbers_from}
 use Rattle.lynx_net.specs.Lists.{digit_at}
 use Rattle.packet_lent.specs.PacketBytes.{all_bytes}
-use Rattle.packet_lent.proofs.BytesLaws.{each_of, each_mapped, each_first, each_next, each_end}
+use Rattle.packet_lent.proofs.BytesLaws.{each_of, each_mapped, each_next, each_end}
 use Rattle.packet_lent.proofs.put_addresses.Invariants.{address_bytes}
 use Rattle.packet_lent.proofs.put_addresses.Goals as goal
-
-pub loop-i-init : goal.loop-i-init
-loop-i-init c =
-    let a = c.args in
-    let B = address_bytes a.ms.house a.ms.units in
-    record { within = omega arith; few = omega (arith, c.requires.0); room = c.requires.1; long = refl; bytes = each_first B 3 a.n a.out.now }
 
 pub loop-i-preserved : goal.loop-i-preserved
 loop-i-preserved c =

@@ -14,11 +14,11 @@ address_bytes house units i = 1 ∷ house ∷ digit_at units i ∷ 0 ∷ 0 ∷ [
 
 -- the addresses from the i-th on, of n, are still to be put
 pub record Putting (n : ℕ) (out₀ : List ℕ) (B : ℕ → List ℕ) (out : List ℕ) (i : ℕ) : Type 0 where
-  within : i ≤ n
-  few : n ≤ 16
-  room : 3 + 5 * n ≤ length out₀
-  long : length out ≡ length out₀
-  bytes : sets out (3 + 5 * i) (each_of B i (n - i)) ≡ sets out₀ 3 (each_of B 0 n)
+  pub within : i ≤ n
+  pub few : n ≤ 16
+  pub room : 3 + 5 * n ≤ length out₀
+  pub long : length out ≡ length out₀
+  pub bytes : sets out (3 + 5 * i) (each_of B i (n - i)) ≡ sets out₀ 3 (each_of B 0 n)
 
 abbrev pub invariant-loop-i : goal.invariant-loop-i
 invariant-loop-i l = Putting l.n l.initial.out (address_bytes l.house l.units) l.out l.i

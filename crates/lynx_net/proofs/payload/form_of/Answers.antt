@@ -64,18 +64,18 @@ pub returns-in_default : goal.returns-in_default
 unfolding form_of
 returns-in_default c =
     simp (
-  ne_eqb c.args.code 8 (omega arith),
-  ne_eqb c.args.code 18 (omega arith),
-  ne_eqb c.args.code 19 (omega arith),
-  ne_eqb c.args.code 31 (omega arith),
-  ne_eqb c.args.code 16 (omega arith),
-  ne_eqb c.args.code 17 (omega arith),
-  ne_eqb c.args.code 22 (omega arith),
-  ne_eqb c.args.code 29 (omega arith),
-  ne_eqb c.args.code 30 (omega arith),
-  ne_eqb c.args.code 176 (omega arith),
-  ne_eqb c.args.code 177 (omega arith),
-  ne_eqb c.args.code 32 (omega arith),
-  ne_eqb c.args.code 33 (omega arith),
-  ne_eqb c.args.code 34 (omega arith),
-)
+      ne_eqb c.args.code 8 (omega arith),
+      ne_eqb c.args.code 18 (omega arith),
+      ne_eqb c.args.code 19 (omega arith),
+      ne_eqb c.args.code 31 (omega arith),
+      ne_eqb c.args.code 16 (omega arith),
+      ne_eqb c.args.code 17 (omega arith),
+      ne_eqb c.args.code 22 (omega arith),
+      ne_eqb c.args.code 29 (omega arith),
+      ne_eqb c.args.code 30 (omega arith),
+      ne_eqb c.args.code 176 (omega arith),
+      ne_eqb c.args.code 177 (omega arith),
+      ne_eqb c.args.code 32 (omega arith),
+      ne_eqb c.args.code 33 (omega arith),
+      ne_eqb c.args.code 34 (omega arith),
+    )

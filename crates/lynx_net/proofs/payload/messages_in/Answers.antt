@@ -1,5 +1,5 @@
 -- `messages_in` meets its contract: bytes that are of no form are refused, and of the others their form tells the messages.
-use Rattle.std.proofs.Common.{◌≡◌, true, false, sym, ap, ◌∙◌}
+use Rattle.std.proofs.Common.{◌≡◌, true, sym, ap, ◌∙◌}
 use Rattle.lynx_net.specs.declared.payload.Form.{Form}
 use Rattle.lynx_net.specs.Payloads.{form_in, fits_form, payload_ok}
 use Rattle.lynx_net.specs.Lists.{held_by}

@@ -1,5 +1,5 @@
 -- `number_of` meets its contract. The loop's invariant: the number is that of the units from place k on, which is below 16 to the power of how many they are.
-use Rattle.std.proofs.Common.{◌≡◌, ◌-◌, ◌≤◌, length, drop}
+use Rattle.std.proofs.Common.{◌≡◌, ◌≤◌, length, drop}
 use Rattle.lynx_net.specs.Lists.{number_of}
 use Rattle.lynx_net.proofs.payload.number_of.Given as goal
 

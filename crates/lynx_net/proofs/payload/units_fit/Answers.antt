@@ -1,4 +1,4 @@
-use Rattle.std.proofs.Common.{◌-◌, refl, add-one, arith}
+use Rattle.std.proofs.Common.{refl, add-one, arith}
 use Rattle.ground.specs.Records.{all_below}
 use Rattle.lynx_net.proofs.payload.units_fit.Goals as goal
 

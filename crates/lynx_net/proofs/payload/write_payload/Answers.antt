@@ -1,7 +1,6 @@
 -- `write_payload` meets its contract: its tests are its first two causes, and what is left is that of the arm's callee.
 use Rattle.std.proofs.Common.{sym, ◌∙◌}
 use Rattle.ground.proofs.Causes.{ladder}
-use Rattle.lynx_net.specs.Payloads.{has_payload}
 use Rattle.lynx_net.specs.Packets.{alone_answer, alone_after}
 use Rattle.lynx_net.proofs.PacketLaws.{alone_written}
 use Rattle.lynx_net.proofs.payload.write_payload.Goals as goal
