@@ -3,7 +3,7 @@
 --     command_placed      a radio command's three bytes
 --     wrote, not_written  what the answer of `radio::write` tells
 --     was_read, not_read  what the answer of `radio::read` tells
-use mathlib.Core.Path.{◌≡◌, refl, sym, ap, ◌∙◌}
+use mathlib.Core.Path.{◌≡◌, refl, sym, ap}
 use mathlib.Core.Bool.{Bool, true, false, true≢false, false≢true}
 use mathlib.Core.List.{List, [], ◌∷◌}
 use Prim.Native.Nat.{ℕ, ◌-◌, ◌≤◌}
@@ -16,7 +16,7 @@ use Rattle.ground.specs.declared.Refusal.{Refusal}
 use Rattle.ground.specs.declared.Refusal.TheVariants as refusal
 use Rattle.ground.proofs.Lists.{sets-front}
 use Rattle.radio.specs.Codes.{byte_b, byte_c, command_ok, four_bytes}
-use Rattle.radio.specs.Answers.{write_causes, write_answer, write_report}
+use Rattle.radio.specs.Answers.{write_causes, write_answer}
 use Rattle.radio.specs.declared.RadioBytes.{RadioBytes}
 use Rattle.radio.specs.declared.RadioBytes.TheVariants as bytes
 use Rattle.radio.specs.declared.RadioRead.{RadioRead}

@@ -2,6 +2,7 @@
 // number and every slice is taken; a refusal changes nothing that was lent.
 
 #![tactic(auto)]
+
 ghost use Rattle.std.specs.Prelude.{◌≡◌, ◌≤◌, length};
 ghost use Rattle.std.proofs.lemmas.List.Edits.{sets};
 ghost use Rattle.burst.specs.Writer.{burst_answer, buffer_after};
