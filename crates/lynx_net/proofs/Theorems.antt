@@ -23,7 +23,7 @@ alone_order m room = refl
 
 pub packet_examples : PacketExamples
 unfolding judged read_answer check_of sum_below all_below form_of closed_units messages_of number_of listed
-packet_examples = record { status_on_lem = refl; refused = refl }
+packet_examples = record { status_on_example = refl; refused = refl }
 
 -- ---- what is written is read
 

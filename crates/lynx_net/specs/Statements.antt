@@ -63,6 +63,6 @@ abbrev pub status_on_a : ℕ → List ℕ
 status_on_a last = 0x10 ∷ 0x00 ∷ 0x9E ∷ 0x03 ∷ 0x1D ∷ 0x00 ∷ 0xFF ∷ last ∷ []
 
 pub record PacketExamples : Type 0 where
-  pub status_on_lem : read_report (status_on_a 0xCD) (read_answer (status_on_a 0xCD))
+  pub status_on_example : read_report (status_on_a 0xCD) (read_answer (status_on_a 0xCD))
       ≡ reports (record { node = 0x00; sequence = 0x9E; payload = 0x1D ∷ 0x00 ∷ 0xFF ∷ []; messages = Command 0 StatusOn ∷ [] } ∷ [])
   pub refused : read_report (status_on_a 0xCC) (read_answer (status_on_a 0xCC)) ≡ refuses refusal.Check

@@ -104,4 +104,4 @@ hex_is_read bytes kept ok few full =
     λ k h. ltb-true (get_or bytes k 0) 256 (below_at (λ i. ltb (get_or bytes i 0) 256) (length bytes) ok k h)
     in
     let told = all_told bytes [] 0 0 kept below (omega arith) full refl in
-    record { fits = told.0; bytes_named_lem = told.1; printed = line_printed bytes (line_taken kept (hex_line bytes)) told }
+    record { fits = told.0; names_bytes = told.1; printed = line_printed bytes (line_taken kept (hex_line bytes)) told }

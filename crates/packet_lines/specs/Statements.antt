@@ -19,7 +19,7 @@ line_taken kept line = taken_from (record { line = line_start; kept = kept }) li
 -- every character fits, the bytes named are these, and the line prints the answer to them
 pub record Names (bytes : List ℕ) (t : Taken) : Type 0 where
   pub fits : bad_place t.line ≡ 0
-  pub bytes_named_lem : bytes_named t.line t.kept ≡ bytes
+  pub names_bytes : bytes_named t.line t.kept ≡ bytes
   pub printed : line_text t.line t.kept ≡ answer_text (read_answer bytes) ++ (10 ∷ [])
 
 -- of any bytes, as many as a packet can have and one more

@@ -182,7 +182,7 @@ only_extended (Extended h u d c) a e = go (for_shutters c) refl
     go false t = absurd (extended_each (λ p. p ≡ Move a → ⊥) (λ e. false≢true (ap runs e)) (λ b e. apart e) u d c (rw t at e))
 
 pub only_type_zero : OnlyTypeZero
-only_type_zero = record { type_zero_lem = no_act; others = only_extended }
+only_type_zero = record { of_type_zero = no_act; others = only_extended }
 
 -- which of the sixteen commands of type 0 run, whatever their unit and data: one computed test
 runs_tested : (u d : ℕ) → all_below 16 (λ c. alike (runs (motion_plan u d c)) (not (eqb c 0x00 || eqb c 0x06 || eqb c 0x0D))) ≡ true

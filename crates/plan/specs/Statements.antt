@@ -15,7 +15,7 @@ CarriedRuns = (m : Message) → (carried m ≡ true) ↔ (((a : Act) × (plan_of
 
 -- motions are what type 0 asks for, "and it never changes the module table"; no other message asks for one
 pub record OnlyTypeZero : Type 0 where
-  pub type_zero_lem : (m : Message) (a : Act) → type_zero m ≡ true → plan_of m ≡ Run a → ⊥
+  pub of_type_zero : (m : Message) (a : Act) → type_zero m ≡ true → plan_of m ≡ Run a → ⊥
   pub others : (m : Message) (a : Motion) → plan_of m ≡ Move a → type_zero m ≡ true
 
 -- of type 0, "01 to 05, 07 to 0C" act and "0E and 0F are heard only"; 00, 06 and 0D are not carried

@@ -99,8 +99,8 @@ unit_below m a ok e = go m ok e (only_type_zero.others m a e)
 -- ---- a valid room
 
 pub record Valid (room : Room) : Type 0 where
-  pub modules_long_lem : modules_long room ≡ true
-  pub shutters_long_lem : shutters_long room ≡ true
+  pub modules_as_long : modules_long room ≡ true
+  pub shutters_as_long : shutters_long room ≡ true
   pub modules_valid_lem : modules_valid room ≡ true
   pub shutters_valid_lem : shutters_valid room ≡ true
 
@@ -109,8 +109,8 @@ unfolding shutters_ok
 valid_parts room ok =
     let p = (and-eq-true_iff (modules_valid room) (shutters_valid room)).0 ok in
     record {
-      modules_long_lem = (whole room.modules p.0).long;
-      shutters_long_lem = ((and-eq-true_iff (shutters_long room) _).0 p.1).0;
+      modules_as_long = (whole room.modules p.0).long;
+      shutters_as_long = ((and-eq-true_iff (shutters_long room) _).0 p.1).0;
       modules_valid_lem = p.0;
       shutters_valid_lem = p.1;
     }
@@ -118,7 +118,7 @@ valid_parts room ok =
 -- a valid room has no cause of a route's, and a room without is valid
 pub room_fine : (room : Room) → room_ok room ≡ true → number_given (room_causes room) ≡ 0
 unfolding judged
-room_fine room ok = let v = valid_parts room ok in rw (v.modules_long_lem, v.shutters_long_lem, v.modules_valid_lem, v.shutters_valid_lem)
+room_fine room ok = let v = valid_parts room ok in rw (v.modules_as_long, v.shutters_as_long, v.modules_valid_lem, v.shutters_valid_lem)
 
 pub fine_room : (room : Room) → number_given (room_causes room) ≡ 0 → room_ok room ≡ true
 fine_room room none =
@@ -149,10 +149,10 @@ fine_valid room e is = fine_room room (sym (judged_map number Fine Faulty (room_
 
 module _ (room : Room) (ok : room_ok room ≡ true) where
   pub modules_size : length room.modules ≡ TABLE_BYTES
-  modules_size = eqb-true (length room.modules) TABLE_BYTES (valid_parts room ok).modules_long_lem
+  modules_size = eqb-true (length room.modules) TABLE_BYTES (valid_parts room ok).modules_as_long
 
   pub shutters_size : length room.shutters ≡ SHUTTER_TABLE_BYTES
-  shutters_size = eqb-true (length room.shutters) SHUTTER_TABLE_BYTES (valid_parts room ok).shutters_long_lem
+  shutters_size = eqb-true (length room.shutters) SHUTTER_TABLE_BYTES (valid_parts room ok).shutters_as_long
 
 -- ---- a message on a valid room
 
@@ -177,7 +177,7 @@ module _ (m : Message) (room : Room) where
   unfolding apply_answer room_after plan_answer judged
   by_plan ok =
       let v = valid_parts room ok in
-      rw (v.modules_long_lem, v.shutters_long_lem, v.modules_valid_lem, v.shutters_valid_lem) (
+      rw (v.modules_as_long, v.shutters_as_long, v.modules_valid_lem, v.shutters_valid_lem) (
         judged_same Refused (plan_causes m)
             (λ none. sym (answered (plan_of m) (carried_on m none)))
             ∙ sym (judged_map answer_by (plan_of m) Asks-none (plan_causes m)),

@@ -335,7 +335,7 @@ past_room done refused l room ok holds wide fits =
     let v = valid_parts room ok in
     let w = le-leb (8 * length l.halves) (length l.answers) wide in
     let x = le-leb (6 * length l.halves) (length l.events) fits in
-    rw (v.modules_long_lem, v.shutters_long_lem, v.modules_valid_lem, v.shutters_valid_lem, holds, w, x)
+    rw (v.modules_as_long, v.shutters_as_long, v.modules_valid_lem, v.shutters_valid_lem, holds, w, x)
 
 -- what a call owes by what it answers and leaves
 abbrev pub RouteOwed : Lending → Room → RoomAnswer → Room → Lending → Type 0

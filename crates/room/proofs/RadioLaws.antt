@@ -101,7 +101,7 @@ module _ (code : List ℕ) (room : Room) where
     by_reader =
         let k = read.Command (command_of code) in
         let v = valid_parts room ok in
-        rw (v.modules_long_lem, v.shutters_long_lem, v.modules_valid_lem, v.shutters_valid_lem, reads)
+        rw (v.modules_as_long, v.shutters_as_long, v.modules_valid_lem, v.shutters_valid_lem, reads)
         (sym (judged_map answer_by k read.Refused (read_causes code)), sym (judged_map room_by k read.Refused (read_causes code)))
 
     pub read_obeyed : (k : RadioCommand) (left : Room) (c : Changes) → r ≡ read.Command k → Owed k room c left → Right (Done c) left

@@ -157,6 +157,6 @@ bursts_as_codes ks line ok spaced same =
     let read = codes_carry ks ok in
     record {
       by_mains = heard;
-      by_radio_lem = read;
+      by_codes = read;
       alike = λ room. demand_2 (to_fresh line) (radio (map four_bytes ks)) room room (heard ∙ sym read) refl;
     }

@@ -288,15 +288,15 @@ module _ (l : Lending) (room : Room) where
       go true holds true wide true fits =
           let es = heard l in
           let rest = drop (8 * length l.halves) l.answers in
-          rw (v.modules_long_lem, v.shutters_long_lem, v.modules_valid_lem, v.shutters_valid_lem, holds, wide, fits) (
+          rw (v.modules_as_long, v.shutters_as_long, v.modules_valid_lem, v.shutters_valid_lem, holds, wide, fits) (
             heard_all es room,
             ap (λ (n : ℕ). counts_in n (answers_heard es room ++ rest)) (sym (heard_length l.state l.halves holds))
                 ∙ counts_heard es room rest,
           )
       go true holds true wide false short =
-          rw (v.modules_long_lem, v.shutters_long_lem, v.modules_valid_lem, v.shutters_valid_lem, holds, wide, short) (refl, refl)
-      go true holds false short c fits = rw (v.modules_long_lem, v.shutters_long_lem, v.modules_valid_lem, v.shutters_valid_lem, holds, short) (refl, refl)
-      go false none b wide c fits = rw (v.modules_long_lem, v.shutters_long_lem, v.modules_valid_lem, v.shutters_valid_lem, none) (refl, refl)
+          rw (v.modules_as_long, v.shutters_as_long, v.modules_valid_lem, v.shutters_valid_lem, holds, wide, short) (refl, refl)
+      go true holds false short c fits = rw (v.modules_as_long, v.shutters_as_long, v.modules_valid_lem, v.shutters_valid_lem, holds, short) (refl, refl)
+      go false none b wide c fits = rw (v.modules_as_long, v.shutters_as_long, v.modules_valid_lem, v.shutters_valid_lem, none) (refl, refl)
 
 -- ---- a route
 

@@ -51,7 +51,7 @@ not_own h g house there other =
 pub own_lit_only : OwnLitOnly
 own_lit_only m room g there other =
     let byte = go (outcome m room) in
-    record { byte = byte; answer = that_byte_alone g (room_after m room).modules room.modules (own_house_only m room).modules_long_lem byte }
+    record { byte = byte; answer = that_byte_alone g (room_after m room).modules room.modules (own_house_only m room).modules_as_long byte }
   where
     go : Outcome m room → lit_byte (room_after m room).modules g ≡ lit_byte room.modules g
     go (stays why e same) = rw same

@@ -76,7 +76,7 @@ unfolding apply_answer judged
 done m room ok good runs fit =
     let v = valid_parts room ok in
     let none : (room_report (apply_answer m room)).number ≡ 0 =
-    simp (v.modules_long_lem, v.shutters_long_lem, good, v.modules_valid_lem, v.shutters_valid_lem, runs, fit) in
+    simp (v.modules_as_long, v.shutters_as_long, good, v.modules_valid_lem, v.shutters_valid_lem, runs, fit) in
     record_by_record m room none
 
 -- the room with unit u addressed, and then lit

@@ -60,8 +60,8 @@ called_done hs l ok holds fits =
     let n = length hs in
     let v = valid_parts l.room ok in
     rw (
-      v.modules_long_lem,
-      v.shutters_long_lem,
+      v.modules_as_long,
+      v.shutters_as_long,
       v.modules_valid_lem,
       v.shutters_valid_lem,
       holds,

@@ -39,11 +39,11 @@ use Rattle.room_laws.proofs.ReachLaws.{step_unreached}
 -- ---- each message its table
 
 pub only_type_zero_moves : OnlyTypeZeroMoves
-only_type_zero_moves m room = record { type_zero_lem = λ zero. modules_stay zero (outcome m room); others = λ other. shutters_stay other (outcome m room) }
+only_type_zero_moves m room = record { of_type_zero = λ zero. modules_stay zero (outcome m room); others = λ other. shutters_stay other (outcome m room) }
   where
     modules_stay : type_zero m ≡ true → Outcome m room → (room_after m room).modules ≡ room.modules
     modules_stay zero (stays why e same) = ap (λ (x : Room). x.modules) same
-    modules_stay zero (did a r) = absurd (only_type_zero.type_zero_lem m a zero r.plan)
+    modules_stay zero (did a r) = absurd (only_type_zero.of_type_zero m a zero r.plan)
     modules_stay zero (moved a r) = rw r.left
 
     shutters_stay : type_zero m ≡ false → Outcome m room → (room_after m room).shutters ≡ room.shutters
@@ -94,12 +94,12 @@ pub own_house_only : OwnHouseOnly
 own_house_only m room = go (outcome m room)
   where
     go : Outcome m room → OwnHouse m room
-    go (stays why e same) = record { modules_long_lem = rw same; modules = λ k out. rw same; shutters_long_lem = rw same; shutters = λ one k out. rw same }
+    go (stays why e same) = record { modules_as_long = rw same; modules = λ k out. rw same; shutters_as_long = rw same; shutters = λ one k out. rw same }
     go (did a r) =
         let h = house_of m in
         let t = room.modules in
         record {
-          modules_long_lem = rw r.left (run_length a h t);
+          modules_as_long = rw r.left (run_length a h t);
           modules = λ k out.
               let records = eqb (k / (UNITS * RECORD_BYTES)) h in
               let apart = neither (records || eqb k (HEARD_AT + h)) (eqb k (LIT_AT + h)) out in
@@ -107,16 +107,16 @@ own_house_only m room = go (outcome m room)
               rw r.left
               (run-byte a h t k (eqb-false (k / (UNITS * RECORD_BYTES)) h behind.0) (eqb-false k (HEARD_AT + h) behind.1)
               (eqb-false k (LIT_AT + h) apart.1));
-          shutters_long_lem = rw r.left;
+          shutters_as_long = rw r.left;
           shutters = λ one k out. rw r.left;
         }
     go (moved a r) =
         let h = house_of m in
         let size = shutters_size room r.ok in
         record {
-          modules_long_lem = rw r.left;
+          modules_as_long = rw r.left;
           modules = λ k out. rw r.left;
-          shutters_long_lem = rw r.left (each_shutter a h room.shutters size).long;
+          shutters_as_long = rw r.left (each_shutter a h room.shutters size).long;
           shutters = λ one k out.
               rw r.left (own_shutters_only a h room.shutters k size (home m a one r.plan h) out);
         }

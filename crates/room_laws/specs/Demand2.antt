@@ -123,7 +123,7 @@ AllOk (k ∷ ks) = (command_ok k ≡ true) × AllOk ks
 -- the line carries the commands' messages to a fresh receiver, and so do their codes; so they leave equal rooms: proofs/Bursts.antt
 pub record SameByBoth (ks : List RadioCommand) (line : List Sending) : Type 0 where
   pub by_mains : carries (to_fresh line) ≡ flat_map messages_of ks
-  pub by_radio_lem : carries (radio (map four_bytes ks)) ≡ flat_map messages_of ks
+  pub by_codes : carries (radio (map four_bytes ks)) ≡ flat_map messages_of ks
   pub alike : (room : Room) → Alike (to_fresh line) (radio (map four_bytes ks)) room room
 
 abbrev pub BurstsAsCodes : Type 0

@@ -105,7 +105,7 @@ for_every_house (Extended h u d c) = eqb c 0x05 || eqb c 0x08 || eqb c 0x0A || e
 
 -- "Only type 0 changes shutters, and it never changes the module table."
 pub record EachItsTable (m : Message) (room : Room) : Type 0 where
-  pub type_zero_lem : type_zero m ≡ true → (room_after m room).modules ≡ room.modules
+  pub of_type_zero : type_zero m ≡ true → (room_after m room).modules ≡ room.modules
   pub others : type_zero m ≡ false → (room_after m room).shutters ≡ room.shutters
 
 abbrev pub OnlyTypeZeroMoves : Type 0
@@ -113,9 +113,9 @@ OnlyTypeZeroMoves = (m : Message) (room : Room) → EachItsTable m room
 
 -- a message changes only records of its own house and that house's own bytes, and of the shutters, but for four commands, only its own house's
 pub record OwnHouse (m : Message) (room : Room) : Type 0 where
-  pub modules_long_lem : length (room_after m room).modules ≡ length room.modules
+  pub modules_as_long : length (room_after m room).modules ≡ length room.modules
   pub modules : (k : ℕ) → own_byte (house_of m) k ≡ false → get_or (room_after m room).modules k 0 ≡ get_or room.modules k 0
-  pub shutters_long_lem : length (room_after m room).shutters ≡ length room.shutters
+  pub shutters_as_long : length (room_after m room).shutters ≡ length room.shutters
   pub shutters : for_every_house m ≡ false → (k : ℕ) → own_shutter_byte (house_of m) k ≡ false
       → get_or (room_after m room).shutters k 0 ≡ get_or room.shutters k 0
 
