@@ -1,6 +1,6 @@
 /* x10.h: the exported routines of the static library x10.
  *
- * The library is target/staticlib/libx10.a, which `rt staticlib x10` writes for x86-64 Linux. This
+ * The library is target/staticlib/libx10.a, which `tools/archive` builds for x86-64 Linux. This
  * header is kept by hand; docs/LINKING.md shows a program that uses it.
  *
  * A slice is a pointer and then its length in bytes. Every routine takes any numbers and any slices,

@@ -1,5 +1,5 @@
 //! Tells the linker where the static library lies: in the folder that X10_LIB names, else in
-//! target/staticlib of the repository, where `rt staticlib x10` writes it.
+//! target/staticlib of the repository, where `tools/archive` puts it.
 
 use std::env;
 use std::path::{Path, PathBuf};

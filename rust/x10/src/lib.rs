@@ -1,6 +1,6 @@
 //! The static library `x10` for Rust programs: a safe function for each of its fourteen routines.
 //!
-//! The library is target/staticlib/libx10.a, which `rt staticlib x10` writes. A package that depends
+//! The library is target/staticlib/libx10.a, which `tools/archive` builds. A package that depends
 //! on this one by path is linked with it.
 //!
 //! The routines take any numbers and any slices, empty ones too, always end, and keep nothing between
