@@ -16,9 +16,6 @@ use text::{ROOM, Text, front, letter, place};
 
 const ROWS: usize = 544;
 
-// The most bytes of a listing that are looked at.
-const LONGEST: u64 = 65536;
-
 // The descriptor of standard output.
 const STDOUT: i32 = 1;
 
@@ -273,13 +270,28 @@ fn judge_all(text: &[u8]) {
     print_totals(totals, text.len() - at);
 }
 
+// Reads to the end of a file, a read that fails or the end of the buffer, and answers how many bytes came.
+fn read_front<R: Read>(from: &mut R, text: &mut [u8]) -> usize
+    ensures { result ≤ length text.new }
+{
+    let mut done = 0;
+    while done < text.len() {
+        match from.read(&mut text[done..]) {
+            Ok(0) => return done,
+            Ok(n) => done += n,
+            Err(_) => return done,
+        }
+    }
+    done
+}
+
 fn main(rt: HostRuntime) -> Result<()> {
     let path = "listing.tsv";
     match File::open(&rt, path) {
-        Ok(file) => {
-            let mut text = Vec::new(rt.alloc());
-            file.take(LONGEST).read_to_end(&mut text)?;
-            judge_all(&text);
+        Ok(mut file) => {
+            let mut text = io::large_buffer();
+            let n = read_front(&mut file, &mut text);
+            judge_all(&text[..n]);
             Ok(())
         }
         Err(why) => eprintln!(rt; "{path}: {why}"),
