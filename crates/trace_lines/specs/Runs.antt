@@ -109,7 +109,7 @@ all_go_on p (h ∷ hs) = goes_on_by (outcome_after p h) && all_go_on (progress_a
 
 -- a run, the input buffer that it leaves, and the buffer of lines before and after it: one turn for each read; it goes on after every
 -- one but the last, and ends after the last, or after as many reads as a number counts; the buffers of all turns were filled in turn
-pub record RunOf (r : Ran) (input out outAfter : List ℕ) : Type 0 where
+pub record RunOf (r : Ran) (input out out_after : List ℕ) : Type 0 where
   pub before : List Had
   pub last : Had
   pub reads : r.reads ≡ length before + 1
@@ -119,7 +119,7 @@ pub record RunOf (r : Ran) (input out outAfter : List ℕ) : Type 0 where
   pub ends : (goes_on_by r.outcome && ltb r.reads GREATEST) ≡ false
   pub progress : r.progress ≡ progress_after trace_start (all_read (before ++ (last ∷ [])))
   pub left : input ≡ last.buffer
-  pub buffers : outAfter ≡ buffer_after out (all_buffers trace_start (before ++ (last ∷ [])))
+  pub buffers : out_after ≡ buffer_after out (all_buffers trace_start (before ++ (last ∷ [])))
 
 -- ---- what holds of them: proofs/RunLaws.antt
 

@@ -31,8 +31,8 @@ goes_by true reads e = (refl, eqb-false reads GREATEST e)
 goes_by false reads e = absurd (false≢true (sym e))
 
 module _ {most : ℕ} {out₀ out : List ℕ} {p : Progress} {reads : ℕ} (b : Before most out₀ out p reads) (h : Had) (q : Progress) (why : Outcome)
-    (outAfter : List ℕ) (got : got_ok h.got (length h.buffer) ≡ true) (size : length h.buffer ≡ most)
-    (leads : q ≡ progress_after p (piece_of h)) (fills : outAfter ≡ buffer_after out (buffers_of p (piece_of h)))
+    (out_after : List ℕ) (got : got_ok h.got (length h.buffer) ≡ true) (size : length h.buffer ≡ most)
+    (leads : q ≡ progress_after p (piece_of h)) (fills : out_after ≡ buffer_after out (buffers_of p (piece_of h)))
     (judged : why ≡ outcome_of h.got h.written q.stopped) where
   outcome_is : why ≡ outcome_after (progress_after trace_start (all_read b.turns)) h
   outcome_is =
@@ -46,7 +46,7 @@ module _ {most : ℕ} {out₀ out : List ℕ} {p : Progress} {reads : ℕ} (b : 
       ∙ sym (progress_append trace_start (all_read b.turns) (piece_of h))
       ∙ ap (progress_after trace_start) (sym (all_read-more b.turns h))
 
-  buffers_are : outAfter ≡ buffer_after out₀ (all_buffers trace_start (b.turns ++ (h ∷ [])))
+  buffers_are : out_after ≡ buffer_after out₀ (all_buffers trace_start (b.turns ++ (h ∷ [])))
   buffers_are =
       fills
       ∙ ap (λ (x : Progress). buffer_after out (buffers_of x (piece_of h))) b.stands
@@ -56,7 +56,7 @@ module _ {most : ℕ} {out₀ out : List ℕ} {p : Progress} {reads : ℕ} (b : 
   all_fit_lem : all_fit most (b.turns ++ (h ∷ [])) ≡ true
   all_fit_lem = all_fit_more most b.turns h b.fit (ap (λ (n : ℕ). got_ok h.got n) (sym size) ∙ got) size
 
-  one_more : goes_on_by why ≡ true → Before most out₀ outAfter q (reads + 1)
+  one_more : goes_on_by why ≡ true → Before most out₀ out_after q (reads + 1)
   one_more goes =
       record {
         turns = b.turns ++ (h ∷ []);
@@ -68,7 +68,7 @@ module _ {most : ℕ} {out₀ out : List ℕ} {p : Progress} {reads : ℕ} (b : 
       }
 
   the_last : (input : List ℕ) → input ≡ h.buffer → (goes_on_by why && ltb (reads + 1) GREATEST) ≡ false
-      → RunOf (record { progress = q; outcome = why; reads = reads + 1 }) input out₀ outAfter
+      → RunOf (record { progress = q; outcome = why; reads = reads + 1 }) input out₀ out_after
   the_last input left ends =
       record {
         before = b.turns;
