@@ -47,8 +47,10 @@ def read(path):
 
 def library_names():
     """Every name with a dash or a capital that the kit's own files declare."""
+    page = subprocess.run(["rt", "doc"], capture_output=True, text=True, check=True).stdout.split()[0]
+    kit = os.path.join(os.path.dirname(page), "rattle")
     said = subprocess.run(
-        ["grep", "-rhoE", "--include=*.antt", r"^ *((pub|abbrev|unfoldable|data|record|ruleset) )*[A-Za-z_][^ ():;{}]* :", "/opt/rattle/rattle"],
+        ["grep", "-rhoE", "--include=*.antt", r"^ *((pub|abbrev|unfoldable|data|record|ruleset) )*[A-Za-z_][^ ():;{}]* :", kit],
         capture_output=True, text=True, errors="replace",
     ).stdout
     return {line.strip().split(" ")[-2] for line in said.splitlines() if line.strip()}
