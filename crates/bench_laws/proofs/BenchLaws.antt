@@ -6,6 +6,7 @@
 --     Turns, movable               what a call that is not refused gives and leaves, and what is known of each station
 --     Called, called               a call is refused and changes nothing, or turns every station, as these say
 --     bench_number, bench_refuses  valid stations are refused by their draws alone
+use Rattle.std.specs.Prelude.{Ok}
 use mathlib.Core.Path.{◌≡◌, refl, sym, ap, subst, ◌∙◌}
 use mathlib.Core.Logic.{◌⊎◌, inl, inr}
 use mathlib.Core.Bool.{Bool, true, false, ◌&&◌}
@@ -24,7 +25,6 @@ use Rattle.station.specs.declared.Station.{Station}
 use Rattle.station.specs.declared.Turn.{Turn}
 use Rattle.station.specs.Stations.{empty_station, station_ok, draw_ok, sends_of, turn_of, is_done}
 use Rattle.station.specs.Benches.{bench_report, line_of, move_all, done_all, stations_ok, draws_ok, turn_all, bench_refused, bench_on}
-use Rattle.station.specs.declared.bench.BenchAnswer.TheVariants.{Line}
 use Rattle.station.specs.declared.bench.BenchTurn.{BenchTurn}
 use Rattle.station.proofs.SlotLaws.{ok_in, draw_in, line_in, line_below, length_moved}
 use Rattle.station.proofs.TurnLaws.{Movable}
@@ -71,7 +71,7 @@ line_some (s ∷ ss) = go (dec_le (sends_of s) (line_of ss)) (line_some ss)
 
 -- what a call that is not refused gives and leaves, h being the line's half-cycle
 pub record Turns (n : ℕ) (stations : List Station) (draws : List ℕ) (h : ℕ) (t : BenchTurn) : Type 0 where
-  pub answers : t.answer ≡ Line h
+  pub answers : t.answer ≡ Ok h
   pub same : length t.slots ≡ length stations
   pub next : (i : ℕ) → i < n → get_or t.slots i empty_station ≡ (turn_at h stations draws i).next
   pub says : (i : ℕ) → i < n → get_or t.done i false ≡ is_done (turn_at h stations draws i).answer
@@ -108,7 +108,7 @@ module _ (n : ℕ) (stations : List Station) (draws : List ℕ) (many : length s
 -- a call is refused and changes nothing, or turns every station
 pub data Called (most n : ℕ) (now : Moment) (draws : List ℕ) : Type 0 where
   refused : call most n now draws ≡ now → Called most n now draws
-  taken : (h : ℕ) (t : BenchTurn) → Turns n now.stations draws h t → call most n now draws ≡ next_moment now t (Line h) → Called most n now draws
+  taken : (h : ℕ) (t : BenchTurn) → Turns n now.stations draws h t → call most n now draws ≡ next_moment now t (Ok h) → Called most n now draws
 
 module _ (most n : ℕ) (now : Moment) (draws : List ℕ) (many : length now.stations ≡ n) where
   pub called : Called most n now draws

@@ -1,5 +1,6 @@
 -- The bound is reached by two stations that draw the longest wait each time and send the longest bursts, whose last half-cycle is 1: after 267
 -- calls the one with the smaller frame has yet to say DONE. Computed, call by call.
+use Rattle.std.specs.Prelude.{Ok}
 use mathlib.Core.Path.{◌≡◌, refl}
 use mathlib.Core.List.{List, [], ◌∷◌, zip_with}
 use Prim.Native.Nat.{ℕ, zero, suc, ◌<◌}
@@ -11,7 +12,6 @@ use Rattle.message.specs.declared.Message.TheVariants.{Extended}
 use Rattle.burst.specs.Frames.{bits_of, pairs_of, frame_of, burst_of}
 use Rattle.station.specs.Stations.{empty_station, station_ok, load_of, loaded, sends_of, turn_of}
 use Rattle.station.specs.declared.Station.{Station}
-use Rattle.station.specs.declared.LoadAnswer.TheVariants.{Loaded}
 use Rattle.station.specs.Benches.{line_of, move_all, done_all, stations_ok, draws_ok, turn_all, bench_on}
 use Rattle.ground.specs.Refusals.{judged}
 use Rattle.bench_run.specs.Calls.{call, run}
@@ -26,7 +26,7 @@ stations = loaded (message 0) 10 ∷ loaded (message 1) 10 ∷ []
 abbrev calls : ℕ → List (List ℕ)
 calls k = replicate k (10 ∷ 10 ∷ [])
 
-accepted : (i : ℕ) → i < 2 → (load_of empty_station (message i) 10).answer ≡ Loaded
+accepted : (i : ℕ) → i < 2 → (load_of empty_station (message i) 10).answer ≡ Ok tt
 unfolding load_of station_ok judged
 accepted zero l = refl
 accepted (suc zero) l = refl

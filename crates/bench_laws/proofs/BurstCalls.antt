@@ -3,6 +3,7 @@
 --
 --     burst_goes_on, burst_over     a call, before a burst's end and at it
 --     next_state                    any call that is not refused
+use Rattle.std.specs.Prelude.{Ok}
 use mathlib.Core.Path.{◌≡◌, refl, sym, ap, ap₂, subst, ◌∙◌}
 use mathlib.Core.Logic.{◌⊎◌, inl, inr}
 use mathlib.Core.Bool.{true, false}
@@ -24,7 +25,6 @@ use Rattle.receiver.specs.declared.Event.TheVariants.{Message as Gives, Repeat}
 use Rattle.station.specs.Stations.{sends_of, is_done}
 use Rattle.station.specs.declared.Station.{Station}
 use Rattle.station.specs.declared.Turn.{Turn}
-use Rattle.station.specs.declared.bench.BenchAnswer.TheVariants.{Line}
 use Rattle.station.specs.declared.bench.BenchTurn.{BenchTurn}
 use Rattle.receiver_laws.proofs.Rests.{Rests, rests_ready}
 use Rattle.receiver_laws.proofs.Standing.{stands_at, event_at, stands_last, repeat_ends}
@@ -138,8 +138,8 @@ module _ (n : ℕ) (message : ℕ → Message) (B : Bench n message) (now : Mome
           (R.given i l (front_less (message i) sent h f.front short).0) (length longer) length-longer f.more
 
       burst_goes_on : Kept n message now
-          → Kept n message (next_moment now t (Line h)) × Underway n message z r longer (next_moment now t (Line h))
-          × Sender n message (counted_by z longer) longer (next_moment now t (Line h))
+          → Kept n message (next_moment now t (Ok h)) × Underway n message z r longer (next_moment now t (Ok h))
+          × Sender n message (counted_by z longer) longer (next_moment now t (Ok h))
       burst_goes_on K = (
         keeps n message now draws h t T K
             (going_right n message now draws h t T (λ i l. (going i l).1) no_repeat gives cleanly),
@@ -200,7 +200,7 @@ module _ (n : ℕ) (message : ℕ → Message) (B : Bench n message) (now : Mome
           go (suc h) f = omega arith
 
       burst_over : Kept n message now
-          → Kept n message (next_moment now t (Line h)) × Quiet n message (counted_by z longer) (next_moment now t (Line h))
+          → Kept n message (next_moment now t (Ok h)) × Quiet n message (counted_by z longer) (next_moment now t (Ok h))
       unfolding stands_at
       burst_over K = (
         keeps n message now draws h t T K
@@ -222,7 +222,7 @@ module _ (n : ℕ) (message : ℕ → Message) (B : Bench n message) (now : Mome
 
   module _ (t : BenchTurn) (K : Kept n message now) where
     abbrev Next : ℕ → Type 0
-    Next h = Kept n message (next_moment now t (Line h)) × State n message (next_moment now t (Line h))
+    Next h = Kept n message (next_moment now t (Ok h)) × State n message (next_moment now t (Ok h))
 
     burst_next : (h : ℕ) → Turns n now.stations draws h t → (z : ℕ) (r : Receiver) (sent : List ℕ) → Underway n message z r sent now
         → (F : Sender n message (counted_by z sent) sent now) → get_or (burst_of (message F.who)) (length sent) 0 ≡ h → Next h

@@ -3,6 +3,7 @@
 --     Passed, passed                       what it means that nothing is refused
 --     said_at, station_at_lem, loaded_at       the message and the station at a place
 --     exported_run                         ExportedRun
+use Rattle.std.specs.Prelude.{Result, Ok, Err, ⊤}
 use mathlib.Core.Path.{◌≡◌, refl, sym, ap, ◌∙◌}
 use mathlib.Core.Bool.{true, false≢true, and-eq-true_iff}
 use mathlib.Core.List.{List, [], ◌∷◌}
@@ -13,16 +14,13 @@ use borrow.Author.Tests.{leb-true, eqb-true}
 use lib.ListN.{length, get_or, drop}
 use lib.Seq.{drop-drop}
 use Rattle.ground.specs.Refusals.{number_given}
+use Rattle.ground.specs.declared.Refusal.{Refusal}
 use Rattle.ground.proofs.Causes.{none_stops, nothing_refused}
 use Rattle.message.specs.declared.Message.{Message}
 use Rattle.message.specs.declared.Message.TheVariants.{Address}
 use Rattle.station.specs.Stations.{empty_station}
 use Rattle.station.specs.Benches.{most_stations}
-use Rattle.station.specs.declared.LoadAnswer.{LoadAnswer}
-use Rattle.station.specs.declared.LoadAnswer.TheVariants.{Loaded, Refused as NotLoaded}
 use Rattle.wire.specs.Messages.{message_in, says_message}
-use Rattle.wire.specs.declared.MessageRead.{MessageRead}
-use Rattle.wire.specs.declared.MessageRead.TheVariants.{Message as Says, Refused as NoMessage}
 use Rattle.bench_run.specs.BenchRuns.{all_say, loading_by, loadings, is_loaded, else_answer, loads_answer, stations_from, calls_of}
 use Rattle.bench_run.specs.BenchRuns.{RunSlices, run_causes, stations_in, moment_in, turns_in, run_answer, lines_after, marks_after}
 use Rattle.bench_run.proofs.LoadLaws.{loads_length}
@@ -82,12 +80,12 @@ station_at_lem bytes (d ∷ ds) (suc i) h =
     station_at_lem (drop 5 bytes) ds i (le_of_suc-le-suc h) ∙ ap (λ (b : List ℕ). (loading_by (message_in b) (get_or ds i 0)).next) (further i bytes)
 
 -- each of them was loaded
-else_loaded : (a b : LoadAnswer) → is_loaded (else_answer a b) ≡ true → (a ≡ Loaded) × (is_loaded b ≡ true)
-else_loaded Loaded b t = (refl, t)
-else_loaded (NotLoaded why) b t = absurd (false≢true t)
+else_loaded : (a b : Result ⊤ Refusal) → is_loaded (else_answer a b) ≡ true → (a ≡ Ok tt) × (is_loaded b ≡ true)
+else_loaded (Ok tt) b t = (refl, t)
+else_loaded (Err why) b t = absurd (false≢true t)
 
 loaded_at : (bytes loads : List ℕ) (i : ℕ) → i < length loads → is_loaded (loads_answer (loadings bytes loads)) ≡ true
-    → (loading_by (message_in (drop (5 * i) bytes)) (get_or loads i 0)).answer ≡ Loaded
+    → (loading_by (message_in (drop (5 * i) bytes)) (get_or loads i 0)).answer ≡ Ok tt
 unfolding loadings loads_answer
 loaded_at bytes [] i h t = absurd (not-suc-le-zero h)
 loaded_at bytes (d ∷ ds) zero h t = (else_loaded (loading_by (message_in bytes) d).answer _ t).0
@@ -96,14 +94,14 @@ loaded_at bytes (d ∷ ds) (suc i) h t =
     ∙ loaded_at (drop 5 bytes) ds i (le_of_suc-le-suc h) (else_loaded (loading_by (message_in bytes) d).answer _ t).1
 
 -- the message that is said; where none is, any will do
-message_of : MessageRead → Message
-message_of (Says m) = m
-message_of (NoMessage why) = Address 0 0
+message_of : Result Message Refusal → Message
+message_of (Ok m) = m
+message_of (Err why) = Address 0 0
 
-is_said : (r : MessageRead) → says_message r ≡ true → r ≡ Says (message_of r)
+is_said : (r : Result Message Refusal) → says_message r ≡ true → r ≡ Ok (message_of r)
 unfolding message_of
-is_said (Says m) t = refl
-is_said (NoMessage why) t = cc
+is_said (Ok m) t = refl
+is_said (Err why) t = cc
 
 -- ---- what is lent
 
@@ -111,7 +109,7 @@ module _ (l : RunSlices) (p : Passed l) where
   abbrev n : ℕ
   n = length l.loads
 
-  abbrev said : ℕ → MessageRead
+  abbrev said : ℕ → Result Message Refusal
   said i = message_in (drop (5 * i) l.messages)
 
   abbrev message : ℕ → Message
@@ -120,7 +118,7 @@ module _ (l : RunSlices) (p : Passed l) where
   abbrev draw : ℕ → ℕ
   draw i = get_or l.loads i 0
 
-  says : (i : ℕ) → i < n → said i ≡ Says (message i)
+  says : (i : ℕ) → i < n → said i ≡ Ok (message i)
   says i h = is_said (said i) (said_at (length l.messages / 5) l.messages i (omega (arith, p.five)) p.say)
 
   starts : Start most_stations n message draw (stations_in l)
@@ -129,8 +127,8 @@ module _ (l : RunSlices) (p : Passed l) where
     allowed = p.most;
     many = loads_length l.messages l.loads;
     accepted = λ i h.
-        ap (λ (r : MessageRead). (loading_by r (draw i)).answer) (sym (says i h)) ∙ loaded_at l.messages l.loads i h p.loaded;
-    loaded = λ i h. station_at_lem l.messages l.loads i h ∙ ap (λ (r : MessageRead). (loading_by r (draw i)).next) (says i h);
+        ap (λ (r : Result Message Refusal). (loading_by r (draw i)).answer) (sym (says i h)) ∙ loaded_at l.messages l.loads i h p.loaded;
+    loaded = λ i h. station_at_lem l.messages l.loads i h ∙ ap (λ (r : Result Message Refusal). (loading_by r (draw i)).next) (says i h);
   }
 
 pub exported_run : ExportedRun

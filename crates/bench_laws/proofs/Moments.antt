@@ -5,6 +5,7 @@
 --     Alike, alike, all_ok     what both say of the stations
 --     keeps, going_right       what a call keeps, and its answer where none is DONE
 --     quiet_call               a call while none sends
+use Rattle.std.specs.Prelude.{Ok}
 use mathlib.Core.Path.{◌≡◌, sym, ap, subst, ◌∙◌}
 use mathlib.Core.Bool.{true, false, false≢true}
 use mathlib.Core.List.{List, [], reverse_aux}
@@ -20,7 +21,6 @@ use Rattle.receiver.specs.declared.Receiver.{Receiver}
 use Rattle.receiver.specs.declared.Event.TheVariants.{Nothing, Message as Gives, Repeat}
 use Rattle.station.specs.Stations.{station_ok, is_done}
 use Rattle.station.specs.declared.Station.{Station}
-use Rattle.station.specs.declared.bench.BenchAnswer.TheVariants.{Line}
 use Rattle.station.specs.declared.bench.BenchTurn.{BenchTurn}
 use Rattle.receiver_laws.specs.Whole.{Ready}
 use Rattle.receiver_laws.proofs.Rests.{Rests, rests_step, rests_next}
@@ -96,7 +96,7 @@ module _ (n : ℕ) (message : ℕ → Message) where
     all_ok i l = stands_ok (message i) (B.valid i l) A.sent A.count (station_at now i) (A.stands i l)
 
   module _ (now : Moment) (draws : List ℕ) (h : ℕ) (t : BenchTurn) (T : Turns n now.stations draws h t) where
-    pub keeps : Kept now → Right n message (newest now h t) now.past → Kept (next_moment now t (Line h))
+    pub keeps : Kept now → Right n message (newest now h t) now.past → Kept (next_moment now t (Ok h))
     keeps K right = record {
       many = T.same ∙ K.many;
       tally = λ i l. omega (arith, ap mark (T.says i l), K.tally i l, empties (movable T i l), ap vacant (T.next i l));
@@ -121,7 +121,7 @@ module _ (n : ℕ) (message : ℕ → Message) where
         → Stands (message i) [] (c + 1) (turn_at 0 now.stations draws i).next × (is_done (turn_at 0 now.stations draws i).answer ≡ false)
     settled i l = counts_on (message i) (B.valid i l) c (get_or draws i 0) (T.draw i l) (station_at now i) (T.above i l) (Q.stations i l)
 
-    pub quiet_call : Kept now → Kept (next_moment now t (Line 0)) × Quiet (c + 1) (next_moment now t (Line 0))
+    pub quiet_call : Kept now → Kept (next_moment now t (Ok 0)) × Quiet (c + 1) (next_moment now t (Ok 0))
     quiet_call K =
         let step = rests_step Q.rests in
         let nothing : (newest now 0 t).event ≡ Nothing = ap (λ (x : Heard). x.event) step in (

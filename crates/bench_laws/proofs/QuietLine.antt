@@ -4,6 +4,7 @@
 --     unsent          before a burst's first half-cycle no station has sent any
 --     none_starts     after it none starts
 --     quiet_line, greatest_from_start     theorems of specs/Together.antt
+use Rattle.std.specs.Prelude.{Option}
 use mathlib.Core.Path.{◌≡◌, ap}
 use mathlib.Core.List.{List, [], ◌∷◌}
 use Prim.Native.Nat.{ℕ, ◌<◌}
@@ -11,7 +12,6 @@ use native.Mathlib.Omega.{arith}
 use lib.ListN.{length}
 use Rattle.message.specs.declared.Message.{Message}
 use Rattle.station.specs.Stations.{is_empty}
-use Rattle.station.specs.declared.Held.{Held}
 use Rattle.station.specs.declared.Station.{Station}
 use Rattle.bench_run.specs.Calls.{Moment, at_start, run}
 use Rattle.bench_laws.specs.Together.{station_at, Valid, Starts, Quiet, StartsOnAQuietLine, GreatestWinsFromStart}
@@ -31,7 +31,7 @@ module _ {m : Message} {z : ℕ} {s : Station} where
   unsent (sends x) = placed x.is
 
   none_starts : {sent : List ℕ} {g : Message} → 0 < length sent → Stands m sent z s → Starts g s → ⊥
-  none_starts some (gone e) st = omega (arith, ap vacant e, ap (λ (x : Held). mark (is_empty x)) st.holds)
+  none_starts some (gone e) st = omega (arith, ap vacant e, ap (λ (x : Option Message). mark (is_empty x)) st.holds)
   none_starts some (waiting w d l e) st =
       omega (arith, st.counted, ap (λ (s : Station). s.count) e, ap (λ (s : Station). s.wait) e)
   none_starts some (sends x) st = omega (arith, st.unsent, placed x.is)

@@ -7,6 +7,7 @@
 --     halves_kept, marks_counted, heard_so_far   the half-cycles, the marks and the receiver are those that demand 3 keeps
 --     unmarked_at, sent_at, heard_at_lem   a call that is refused, and one that marks a station
 --     every_press_is_marked          EveryPressIsMarked
+use Rattle.std.specs.Prelude.{Result, Ok}
 use mathlib.Core.Path.{◌≡◌, refl, sym, ap, ap₂, subst, ◌∙◌}
 use mathlib.Core.Logic.{◌⊎◌, inl, inr, ◌↔◌}
 use mathlib.Core.Bool.{Bool, true, false, false≢true}
@@ -22,7 +23,6 @@ use lib.ListN.{length, get_or, take, drop, length-drop, length-map, length-rever
 use lib.Seq.{take_at, get_or_at, get_or-append-add, length-take-le}
 use Rattle.ground.specs.Choice.{pick}
 use Rattle.ground.specs.Refusals.{refusal_number}
-use Rattle.ground.specs.declared.CountAnswer.TheVariants.{Done}
 use Rattle.ground.specs.declared.Refusal.{Refusal}
 use Rattle.ground.proofs.Causes.{some_number}
 use Rattle.ground.proofs.Lists.{flat_append}
@@ -35,8 +35,6 @@ use Rattle.receiver.specs.declared.Event.{Event}
 use Rattle.receiver_laws.specs.Whole.{burst_events}
 use Rattle.station.specs.Benches.{line_of, draws_ok, turn_all, bench_on, bench_report, most_stations}
 use Rattle.station.specs.declared.Station.{Station}
-use Rattle.station.specs.declared.bench.BenchAnswer.{BenchAnswer}
-use Rattle.station.specs.declared.bench.BenchAnswer.TheVariants.{Line}
 use Rattle.station.specs.declared.bench.BenchTurn.{BenchTurn}
 use Rattle.station.proofs.SlotLaws.{line_below}
 use Rattle.station.proofs.Loops.{get_d_same}
@@ -98,7 +96,7 @@ module _ (n : ℕ) (message : ℕ → Message) (draw : ℕ → ℕ) (stations : 
     stays : drawn_for n (draws_of n draws j) ≡ false → line_byte (turn j).answer ≡ 7 → ((i : ℕ) → get_or (turn j).done i false ≡ false)
         → moment (suc j) ≡ moment j → Stepped j
     goes : drawn_for n (draws_of n draws j) ≡ true → (h : ℕ) → h ≤ 1 → line_byte (turn j).answer ≡ h
-        → moment (suc j) ≡ next_moment (moment j) (turn j) (Line h) → Stepped j
+        → moment (suc j) ≡ next_moment (moment j) (turn j) (Ok h) → Stepped j
 
   -- a number that a call is refused by is 7
   seven : (why : Refusal) (b : Bool) → refusal_number why ≡ pick b 0 7 → (b ≡ false) × (refusal_number why ≡ 7)
@@ -120,7 +118,7 @@ module _ (n : ℕ) (message : ℕ → Message) (draw : ℕ → ℕ) (stations : 
       go (turns p m q r s) e =
           goes (rw (eq-eqb (length (draws_of n draws j)) n r) s) (line_of (moment j).stations) (line_below (moment j).stations)
           (ap (λ (o : BenchTurn). line_byte o.answer) e)
-          (ap (λ (a : BenchAnswer). next_moment (moment j) (turn j) a) (ap (λ (o : BenchTurn). o.answer) e))
+          (ap (λ (a : Result ℕ Refusal). next_moment (moment j) (turn j) a) (ap (λ (o : BenchTurn). o.answer) e))
 
   -- ---- the bytes up to a call
 
@@ -346,7 +344,7 @@ every_press_is_marked l none =
           subst (λ (b : List ℕ). (get_or b j 0 ≡ 7) ↔ (draws_ok (draws_of n l.draws j) ≡ false)) (sym E.lines)
           (by_draws n E.message draw (stations_in l) S l.draws k j h (draws-long j h));
       others = λ i j far h. ap (λ (b : List ℕ). mark_at b j i) E.marks ∙ not_marked n E.message draw (stations_in l) S l.draws k i j _ far h;
-      answer = E.answer ∙ ap Done count;
+      answer = E.answer ∙ ap Ok count;
       within = λ enough i h. times i ∙ E.claim.within (omega (arith, count)) i h;
       once = λ i h. subst (λ (x : ℕ). x ≤ 1) (sym (times i)) (E.claim.once i h);
       sent = λ i j h u e.

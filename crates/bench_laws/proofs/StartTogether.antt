@@ -6,6 +6,7 @@
 --     Ahead, ahead_next, ahead          the greatest frame: the line has carried its burst so far
 --     finishes                          at its end, and not before, its station is empty
 --     greatest_wins, greatest_finishes, equals_finish     theorems of specs/Together.antt
+use Rattle.std.specs.Prelude.{Ok, Option}
 use mathlib.Core.Path.{◌≡◌, refl, sym, ap, subst, ◌∙◌}
 use mathlib.Core.Logic.{◌⊎◌, inl, inr}
 use mathlib.Core.Bool.{true}
@@ -19,9 +20,7 @@ use Rattle.message.specs.Messages.{message_ok}
 use Rattle.message.specs.declared.Message.{Message}
 use Rattle.burst.specs.Frames.{burst_of, burst_length}
 use Rattle.station.specs.Stations.{empty_station, is_empty, sends_of}
-use Rattle.station.specs.declared.Held.{Held}
 use Rattle.station.specs.declared.Station.{Station}
-use Rattle.station.specs.declared.bench.BenchAnswer.TheVariants.{Line}
 use Rattle.station.specs.declared.bench.BenchTurn.{BenchTurn}
 use Rattle.station.proofs.StateLaws.{fine_station}
 use Rattle.station.proofs.TurnLaws.{Movable}
@@ -45,7 +44,7 @@ record Taken (n : ℕ) (x : Moment) : Type 0 where
 
 module _ {n : ℕ} (x : Moment) (a : Taken n x) where
   abbrev after : Moment
-  after = next_moment x a.turn (Line a.line)
+  after = next_moment x a.turn (Ok a.line)
 
   module _ (i : ℕ) (l : i < n) where
     moving : Movable (station_at x i) (sends_of (station_at x i)) a.line (get_or a.draws i 0)
@@ -106,8 +105,8 @@ module _ (most n : ℕ) (now : Moment) (A : Valid n now) where
 
       finish : k ≤ burst_length m → times_done i (take k reached.past) ≡ times_done j (take k reached.past)
       finish short =
-          let held-i : vacant (station_at now i) ≡ 0 = ap (λ (x : Held). mark (is_empty x)) si.holds in
-          let held-j : vacant (station_at now j) ≡ 0 = ap (λ (x : Held). mark (is_empty x)) sj.holds in
+          let held-i : vacant (station_at now i) ≡ 0 = ap (λ (x : Option Message). mark (is_empty x)) si.holds in
+          let held-j : vacant (station_at now j) ≡ 0 = ap (λ (x : Option Message). mark (is_empty x)) sj.holds in
           omega (arith, said i li, said j lj, both_vacant (both short))
 
   -- ---- the greatest frame
@@ -171,7 +170,7 @@ module _ (most n : ℕ) (now : Moment) (A : Valid n now) where
       finishes = go (ℕ_discrete k (burst_length m))
         where
           held : vacant (station_at now w) ≡ 0
-          held = ap (λ (x : Held). mark (is_empty x)) G.starts.holds
+          held = ap (λ (x : Option Message). mark (is_empty x)) G.starts.holds
 
           go : Dec (k ≡ burst_length m) → DoneAtTheEnd w m k (run most n now calls)
           go (yes e) =

@@ -9,6 +9,7 @@
 --     Outcome, outcome        what a half-cycle makes of a station, by the line's half-cycle
 --     keeps_sending, is_over  a burst that goes on, and one that ends, leave the stations standing so
 --     counts_on               a clear half-cycle while none sends
+use Rattle.std.specs.Prelude.{Option, Some, None, Ok}
 use mathlib.Core.Path.{◌≡◌, refl, sym, ap, ap₂, ◌∙◌}
 use mathlib.Core.Bool.{Bool, true, false, false≢true}
 use mathlib.Core.List.{List, [], ◌∷◌, ◌++◌}
@@ -28,10 +29,8 @@ use Rattle.burst.specs.Frames.{burst_of, burst_length}
 use Rattle.burst.proofs.FrameLaws.{burst_length_lem}
 use Rattle.station.specs.declared.Station.{Station}
 use Rattle.station.specs.declared.Turn.{Turn}
-use Rattle.station.specs.declared.TurnAnswer.TheVariants.{Done}
+use Rattle.station.specs.declared.Turned.TheVariants.{Done}
 use Rattle.station.specs.Stations.{empty_station, draw_ok, station_ok, loaded, is_empty, sends_of, held_moves, turn_of, is_done}
-use Rattle.station.specs.declared.Held.{Held}
-use Rattle.station.specs.declared.Held.TheVariants.{Empty, Holds}
 use Rattle.station.proofs.SendLaws.{no_fault}
 use Rattle.station.proofs.TurnLaws.{Movable}
 use Rattle.bench_laws.proofs.BurstLaws.{burst_some, burst_first, counted}
@@ -98,7 +97,7 @@ module _ {s : Station} {h d : ℕ} (r : Movable s (sends_of s) h d) where
   Empties t = vacant t.next ≡ mark (is_done t.answer) + vacant s
 
   empties_held : (m : Message) → vacant s ≡ 0 → (a b c e : Bool)
-      → Empties (pick a (pick b (pick c (record { answer = Done; next = empty_station }) (goes (holding m s.wait s.count (s.place + 1))))
+      → Empties (pick a (pick b (pick c (record { answer = Ok Done; next = empty_station }) (goes (holding m s.wait s.count (s.place + 1))))
       (goes (loaded m d))) (goes (pick e (loaded m d) (holding m s.wait (s.count + 1) 0))))
   empties_held m v true true true e = omega (arith, v)
   empties_held m v true true false e = omega (arith, v)
@@ -111,10 +110,10 @@ module _ {s : Station} {h d : ℕ} (r : Movable s (sends_of s) h d) where
   empties =
       simp (le-leb h 1 r.half, r.ok, r.drawn, no_fault (sends_of s) h r.kept) (go s.held refl)
     where
-      go : (x : Held) → s.held ≡ x → Empties (held_moves x s h d)
-      go Empty e = omega arith
-      go (Holds m) e =
-          empties_held m (ap (λ (x : Held). mark (is_empty x)) e) (eqb s.count s.wait) (eqb (get_or (burst_of m) s.place 0) h)
+      go : (x : Option Message) → s.held ≡ x → Empties (held_moves x s h d)
+      go None e = omega arith
+      go (Some m) e =
+          empties_held m (ap (λ (x : Option Message). mark (is_empty x)) e) (eqb s.count s.wait) (eqb (get_or (burst_of m) s.place 0) h)
           (eqb (s.place + 1) (burst_length m)) (eqb h 1)
 
 module _ (m : Message) (valid : message_ok m ≡ true) (sent : List ℕ) (z : ℕ) where
@@ -141,7 +140,7 @@ pub data Outcome (m : Message) (sent : List ℕ) (z : ℕ) (t : Turn) : Type 0 w
   still_gone : t ≡ goes empty_station → Outcome m sent z t
   waits_on_lem : (w : ℕ) → draw_ok w ≡ true → z < w → t ≡ goes (holding m w z 0) → Outcome m sent z t
   sends_on_lem : (w : ℕ) → draw_ok w ≡ true → Follows m sent → t ≡ goes (holding m w w (length sent)) → Outcome m sent z t
-  ends : burst_of m ≡ sent → t ≡ record { answer = Done; next = empty_station } → Outcome m sent z t
+  ends : burst_of m ≡ sent → t ≡ record { answer = Ok Done; next = empty_station } → Outcome m sent z t
 
 module _ (m : Message) (valid : message_ok m ≡ true) (sent : List ℕ) (z : ℕ) (s : Station) where
   abbrev After : ℕ → ℕ → Type 0
@@ -164,7 +163,7 @@ module _ (m : Message) (valid : message_ok m ≡ true) (sent : List ℕ) (z : �
     turned e = ap (λ (s : Station). turn_of s h d) x.is ∙ e
 
     -- a station that sends what is heard: at the burst's end, and before
-    pub ends-here : half ≡ h → length sent + 1 ≡ burst_length m → turn_of s h d ≡ record { answer = Done; next = empty_station }
+    pub ends-here : half ≡ h → length sent + 1 ≡ burst_length m → turn_of s h d ≡ record { answer = Ok Done; next = empty_station }
     ends-here same p = turned (ends_turn m x.wait valid x.drawn_wait h d low hd (length sent) x.follows.more same p)
 
     sends_here : half ≡ h → (length sent + 1 ≡ burst_length m → ⊥)

@@ -5,6 +5,7 @@
 --     Along, along_start, along_half, along_turn, along_ends     a station that sends
 --     Both, both_turn, both_vacant                   two that started together with one message
 --     Beside, beside_start, beside_sends, beside_turn     any station beside the one whose burst the line carries
+use Rattle.std.specs.Prelude.{Option, Some, None}
 use mathlib.Core.Path.{◌≡◌, refl, sym, ap, ap₂, subst, ◌∙◌}
 use mathlib.Core.Bool.{Bool, true, false, and-eq-true_iff}
 use mathlib.Core.List.{List, [], ◌∷◌, ◌++◌, reverse, reverse-append}
@@ -22,8 +23,6 @@ use Rattle.message.specs.declared.Message.{Message}
 use Rattle.burst.specs.Frames.{frame_of, burst_of, burst_length}
 use Rattle.burst.proofs.FrameLaws.{burst_length_lem}
 use Rattle.station.specs.Stations.{empty_station, draw_ok, held_ok, station_ok, is_empty, sends_of, turn_of}
-use Rattle.station.specs.declared.Held.{Held}
-use Rattle.station.specs.declared.Held.TheVariants.{Empty, Holds}
 use Rattle.station.specs.declared.Station.{Station}
 use Rattle.station.specs.declared.Turn.{Turn}
 use Rattle.station.proofs.StateLaws.{Fine, fine_station}
@@ -58,10 +57,10 @@ pub record Along (m : Message) (k : ℕ) (s : Station) : Type 0 where
   pub is : s ≡ holding m wait wait k
 
 -- a station by its fields
-by_fields : {x : Held} {w c p : ℕ} (s : Station) → s.held ≡ x → s.wait ≡ w → s.count ≡ c → s.place ≡ p
+by_fields : {x : Option Message} {w c p : ℕ} (s : Station) → s.held ≡ x → s.wait ≡ w → s.count ≡ c → s.place ≡ p
     → s ≡ record { held = x; wait = w; count = c; place = p }
 by_fields {x} {w} {c} {p} s eh ew ec ep =
-    ap₂ (λ (x : Held) (w : ℕ). record { held = x; wait = w; count = s.count; place = s.place }) eh ew
+    ap₂ (λ (x : Option Message) (w : ℕ). record { held = x; wait = w; count = s.count; place = s.place }) eh ew
     ∙ ap₂ (λ (c p : ℕ). record { held = x; wait = w; count = c; place = p }) ec ep
 
 pub along_start : {m : Message} {s : Station} → station_ok s ≡ true → Starts m s → Along m 0 s
@@ -73,7 +72,7 @@ along_start {m} {s} ok st = record {
 
 -- it holds the message, and has sent less than k half-cycles
 abbrev pub Behind : Message → ℕ → Station → Type 0
-Behind m k s = (s.held ≡ Holds m) × (s.place < k)
+Behind m k s = (s.held ≡ Some m) × (s.place < k)
 
 -- ---- one half-cycle of a station that has heard the line's
 
@@ -146,7 +145,7 @@ module _ {s t : Station} {h d e : ℕ} (r : Movable s (sends_of s) h d) (q : Mov
 pub both_vacant : {m : Message} {k : ℕ} {s t : Station} → Both m k s t → vacant s ≡ vacant t
 both_vacant (along a b) = ap vacant a.is ∙ sym (ap vacant b.is)
 both_vacant (over l x y) = ap vacant (x ∙ sym y)
-both_vacant (behind a b) = ap (λ (x : Held). mark (is_empty x)) (a.0 ∙ sym b.0)
+both_vacant (behind a b) = ap (λ (x : Option Message). mark (is_empty x)) (a.0 ∙ sym b.0)
 
 -- ---- any station beside the one whose burst the line carries
 
@@ -173,12 +172,12 @@ pub beside_start : (m : Message) (s : Station) → station_ok s ≡ true → s.p
 unfolding station_ok
 beside_start m s ok unsent = go s.held refl
   where
-    go : (x : Held) → s.held ≡ x → Beside m 0 s s
-    go Empty e =
-        let all = (and-eq-true_iff (eqb s.wait 8) _).0 (subst (λ (x : Held). held_ok x s.wait s.count s.place ≡ true) e ok) in
+    go : (x : Option Message) → s.held ≡ x → Beside m 0 s s
+    go None e =
+        let all = (and-eq-true_iff (eqb s.wait 8) _).0 (subst (λ (x : Option Message). held_ok x s.wait s.count s.place ≡ true) e ok) in
         let rest = (and-eq-true_iff (eqb s.count 0) (eqb s.place 0)).0 all.1 in
         empty (by_fields s e (eqb-true s.wait 8 all.0) (eqb-true s.count 0 rest.0) unsent)
-    go (Holds g) e = counting (ℕ_discrete s.count s.wait)
+    go (Some g) e = counting (ℕ_discrete s.count s.wait)
       where
         f : Fine g s
         f = fine_station g s e ok

@@ -7,6 +7,7 @@
 --     empty_turn, waiting_turn      what a half-cycle makes of it
 --     ends_turn, sends_turn, yields_turn        and of one that sends, by what is heard
 --     Moves, moves                  what it makes of any station that holds a message
+use Rattle.std.specs.Prelude.{Option, Some, Result, Ok, ⊤}
 use mathlib.Core.Path.{◌≡◌, refl, sym, ap, subst, ◌∙◌}
 use mathlib.Core.Bool.{Bool, true, false, and-eq-true_iff, or-true}
 use Prim.Native.Nat.{ℕ, ◌+◌, ◌≤◌, ◌<◌}
@@ -20,22 +21,19 @@ use Rattle.message.specs.Messages.{message_ok}
 use Rattle.message.specs.declared.Message.{Message}
 use Rattle.burst.specs.Frames.{burst_of, burst_length}
 use Rattle.ground.specs.Refusals.{judged}
+use Rattle.ground.specs.declared.Refusal.{Refusal}
 use Rattle.station.proofs.SendLaws.{no_fault}
-use Rattle.station.specs.declared.Held.{Held}
-use Rattle.station.specs.declared.Held.TheVariants.{Holds}
 use Rattle.station.specs.declared.Station.{Station}
-use Rattle.station.specs.declared.LoadAnswer.{LoadAnswer}
-use Rattle.station.specs.declared.LoadAnswer.TheVariants as load
-use Rattle.station.specs.declared.TurnAnswer.TheVariants.{Going, Done}
+use Rattle.station.specs.declared.Turned.TheVariants.{Going, Done}
 use Rattle.station.specs.declared.Turn.{Turn}
 use Rattle.station.specs.Stations.{empty_station, load_report, draw_ok, station_ok, loaded, load_of, sends_of, waits, sends_on, sending, held_moves, turn_of, is_done}
 use Rattle.bench_laws.proofs.BurstLaws.{burst_some}
 
 abbrev pub holding : Message → ℕ → ℕ → ℕ → Station
-holding m w c p = record { held = Holds m; wait = w; count = c; place = p }
+holding m w c p = record { held = Some m; wait = w; count = c; place = p }
 
 abbrev pub goes : Station → Turn
-goes s = record { answer = Going; next = s }
+goes s = record { answer = Ok Going; next = s }
 
 -- what equal turns leave and mark
 pub next_of : {t t' : Turn} → t ≡ t' → t.next ≡ t'.next
@@ -56,14 +54,14 @@ pub record Accepted (m : Message) (d : ℕ) : Type 0 where
   pub wait : draw_ok d ≡ true
   pub fresh : (load_of empty_station m d).next ≡ loaded m d
 
-pub accepted : (m : Message) (d : ℕ) → (load_of empty_station m d).answer ≡ load.Loaded → Accepted m d
+pub accepted : (m : Message) (d : ℕ) → (load_of empty_station m d).answer ≡ Ok tt → Accepted m d
 unfolding load_of station_ok judged
 accepted m d e = go (message_ok m) (draw_ok d) refl refl
   where
     go : (s t : Bool) → message_ok m ≡ s → draw_ok d ≡ t → Accepted m d
     go true true p q = record { valid = p; wait = q; fresh = simp (p, q) }
-    go true false p q = absurd (omega (arith, simp (p, q) at (ap (λ (a : LoadAnswer). (load_report a).number) e)))
-    go false t p q = absurd (omega (arith, simp p at (ap (λ (a : LoadAnswer). (load_report a).number) e)))
+    go true false p q = absurd (omega (arith, simp (p, q) at (ap (λ (a : Result ⊤ Refusal). (load_report a).number) e)))
+    go false t p q = absurd (omega (arith, simp p at (ap (λ (a : Result ⊤ Refusal). (load_report a).number) e)))
 
 -- ---- one half-cycle
 
@@ -103,7 +101,7 @@ module _ (m : Message) (w : ℕ) (valid : message_ok m ≡ true) (wait : draw_ok
       unfolding turn_of judged
       sending_turn u = simp (le-leb h 1 low, sending_ok k short, draw, sending_sends k, no_fault half h u, eq-eqb w w refl)
 
-      pub ends_turn : half ≡ h → k + 1 ≡ burst_length m → turn_of (holding m w w k) h d ≡ record { answer = Done; next = empty_station }
+      pub ends_turn : half ≡ h → k + 1 ≡ burst_length m → turn_of (holding m w w k) h d ≡ record { answer = Ok Done; next = empty_station }
       ends_turn e l = sending_turn (le_of_eq e) ∙ simp (eq-eqb half h e, eq-eqb (k + 1) (burst_length m) l)
 
       pub sends_turn : half ≡ h → (k + 1 ≡ burst_length m → ⊥) → turn_of (holding m w w k) h d ≡ goes (holding m w w (k + 1))
@@ -117,8 +115,8 @@ module _ (m : Message) (w : ℕ) (valid : message_ok m ≡ true) (wait : draw_ok
 
 -- it is done where its burst is over, and else holds the message at a place at most one further
 pub data Moves (m : Message) (s : Station) (t : Turn) : Type 0 where
-  ends : s.place + 1 ≡ burst_length m → t ≡ record { answer = Done; next = empty_station } → Moves m s t
-  holds : t.next.held ≡ Holds m → t.next.place ≤ s.place + 1 → Moves m s t
+  ends : s.place + 1 ≡ burst_length m → t ≡ record { answer = Ok Done; next = empty_station } → Moves m s t
+  holds : t.next.held ≡ Some m → t.next.place ≤ s.place + 1 → Moves m s t
 
 module _ (m : Message) (s : Station) (h d : ℕ) where
   moves_waiting : (b : Bool) → Moves m s (goes (pick b (loaded m d) (holding m s.wait (s.count + 1) 0)))
@@ -126,7 +124,7 @@ module _ (m : Message) (s : Station) (h d : ℕ) where
   moves_waiting false = holds refl (omega arith)
 
   moves_on : (b : Bool) → eqb (s.place + 1) (burst_length m) ≡ b
-      → Moves m s (pick b (record { answer = Done; next = empty_station }) (goes (holding m s.wait s.count (s.place + 1))))
+      → Moves m s (pick b (record { answer = Ok Done; next = empty_station }) (goes (holding m s.wait s.count (s.place + 1))))
   moves_on true e = ends (eqb-true (s.place + 1) (burst_length m) e) refl
   moves_on false e = holds refl (omega arith)
 
@@ -138,8 +136,8 @@ module _ (m : Message) (s : Station) (h d : ℕ) where
   moves_held true = moves_sending (eqb (get_or (burst_of m) s.place 0) h)
   moves_held false = moves_waiting (eqb h 1)
 
-  pub moves : s.held ≡ Holds m → station_ok s ≡ true → h ≤ 1 → draw_ok d ≡ true → sends_of s ≤ h → Moves m s (turn_of s h d)
+  pub moves : s.held ≡ Some m → station_ok s ≡ true → h ≤ 1 → draw_ok d ≡ true → sends_of s ≤ h → Moves m s (turn_of s h d)
   unfolding turn_of judged
   moves e ok low draw u =
       simp (le-leb h 1 low, ok, draw, no_fault (sends_of s) h u)
-      (subst (λ (x : Held). Moves m s (held_moves x s h d)) (sym e) (moves_held (eqb s.count s.wait)))
+      (subst (λ (x : Option Message). Moves m s (held_moves x s h d)) (sym e) (moves_held (eqb s.count s.wait)))

@@ -1,6 +1,6 @@
 -- Demand 3 (01, 'Station and bench'): whatever draws the bench calls are given, every message that was loaded goes out whole and twice and
 -- is heard, in time, and no other is. "one claim about the whole list of bench calls, not one for each call"; specs/Calls.antt has the list.
-use Rattle.std.specs.Prelude.{ℕ, ◌+◌, ◌*◌, ◌≤◌, ◌<◌, ◌≡◌, ◌↔◌, Bool, true, false, ◌&&◌, List, [], ◌∷◌, reverse, eqb, length, get_or, take}
+use Rattle.std.specs.Prelude.{ℕ, ◌+◌, ◌*◌, ◌≤◌, ◌<◌, ◌≡◌, ◌↔◌, Bool, true, false, ◌&&◌, List, [], ◌∷◌, reverse, eqb, length, get_or, take, Ok}
 use Rattle.ground.specs.Choice.{pick}
 use Rattle.message.specs.declared.Message.{Message}
 use Rattle.burst.specs.Frames.{frame_length, burst_of, burst_length}
@@ -10,7 +10,6 @@ use Rattle.receiver.specs.declared.Event.TheVariants.{Nothing, Message as Gives,
 use Rattle.receiver_laws.specs.Whole.{burst_events}
 use Rattle.station.specs.Stations.{empty_station, load_of}
 use Rattle.station.specs.declared.Station.{Station}
-use Rattle.station.specs.declared.LoadAnswer.TheVariants.{Loaded}
 use Rattle.station.specs.Benches.{bench_on, bench_report, draws_ok}
 use Rattle.bench_run.specs.Calls.{Answered, Moment, lines_of, events_in, at_start, call, run}
 
@@ -20,7 +19,7 @@ pub record Start (most n : ℕ) (message : ℕ → Message) (draw : ℕ → ℕ)
   pub some : 1 ≤ n
   pub allowed : n ≤ most
   pub many : length stations ≡ n
-  pub accepted : (i : ℕ) → i < n → (load_of empty_station (message i) (draw i)).answer ≡ Loaded
+  pub accepted : (i : ℕ) → i < n → (load_of empty_station (message i) (draw i)).answer ≡ Ok tt
   pub loaded : (i : ℕ) → i < n → get_or stations i empty_station ≡ (load_of empty_station (message i) (draw i)).next
 
 -- station i says DONE in an answer, and how often it has said so

@@ -1,13 +1,11 @@
 -- The run that is exported (crate bench_run) makes the calls that demand 3 speaks of: what it loads is as `Start` says, and what it answers and
 -- leaves is read off that very list of calls. The theorem: proofs/ExportedRun.antt.
-use Rattle.std.specs.Prelude.{ℕ, ◌*◌, ◌<◌, ◌≡◌, length, get_or, drop}
+use Rattle.std.specs.Prelude.{ℕ, ◌*◌, ◌<◌, ◌≡◌, length, get_or, drop, Ok}
 use mathlib.Core.List.{◌++◌, flat_map}
 use Rattle.ground.specs.Refusals.{number_given}
-use Rattle.ground.specs.declared.CountAnswer.TheVariants.{Done}
 use Rattle.message.specs.declared.Message.{Message}
 use Rattle.station.specs.Benches.{most_stations}
 use Rattle.wire.specs.Messages.{message_in}
-use Rattle.wire.specs.declared.MessageRead.TheVariants.{Message as Says}
 use Rattle.bench_run.specs.Calls.{at_start, run}
 use Rattle.bench_run.specs.BenchRuns.{calls_of, line_bytes, mark_bytes, RunSlices, run_causes, stations_in, moment_in, turns_in, run_answer, lines_after, marks_after}
 use Rattle.bench_laws.specs.Demand3.{Start, Claim}
@@ -16,7 +14,7 @@ use Rattle.bench_laws.specs.Demand3.{Start, Claim}
 pub record Exported (n : ℕ) (l : RunSlices) : Type 0 where
   -- station i's message is what its five bytes say
   pub message : ℕ → Message
-  pub says : (i : ℕ) → i < n → message_in (drop (5 * i) l.messages) ≡ Says (message i)
+  pub says : (i : ℕ) → i < n → message_in (drop (5 * i) l.messages) ≡ Ok (message i)
   -- "At its start the bench's n stations have just been loaded from empty", each with its own draw
   pub start : Start most_stations n message (λ i. get_or l.loads i 0) (stations_in l)
   -- there is a draw for each station and call
@@ -26,7 +24,7 @@ pub record Exported (n : ℕ) (l : RunSlices) : Type 0 where
   -- and so all of demand 3 holds of where they lead
   pub claim : Claim most_stations n message (moment_in l)
   -- the answer counts those that were not refused
-  pub answer : run_answer l ≡ Done (length (moment_in l).past)
+  pub answer : run_answer l ≡ Ok (length (moment_in l).past)
   -- lines and marks have the bytes of each call, oldest first
   pub lines : lines_after l ≡ line_bytes (turns_in l)
   pub marks : marks_after l ≡ flat_map mark_bytes (turns_in l) ++ drop (2 * length l.lines) l.marks

@@ -1,8 +1,7 @@
 -- Demand 3 in the terms of the exported run: its lines and its marks at exit. A refused call has its number, which is above 1, in place of a half-cycle:
 -- `taken` leaves the half-cycles answered. The theorem: proofs/RunInBytes.antt.
-use Rattle.std.specs.Prelude.{ℕ, zero, suc, ◌+◌, ◌*◌, ◌/◌, ◌%◌, ◌^◌, ◌≤◌, ◌<◌, ◌≡◌, ◌⊎◌, ◌↔◌, false, List, ◌++◌, length, get_or, take, drop}
+use Rattle.std.specs.Prelude.{ℕ, zero, suc, ◌+◌, ◌*◌, ◌/◌, ◌%◌, ◌^◌, ◌≤◌, ◌<◌, ◌≡◌, ◌⊎◌, ◌↔◌, false, List, ◌++◌, length, get_or, take, drop, Ok}
 use Rattle.ground.specs.Refusals.{number_given}
-use Rattle.ground.specs.declared.CountAnswer.TheVariants.{Done}
 use Rattle.message.specs.declared.Message.{Message}
 use Rattle.burst.specs.Frames.{burst_of}
 use Rattle.receiver.specs.Receivers.{fresh_receiver}
@@ -10,7 +9,6 @@ use Rattle.receiver.specs.Hearing.{events_of, taken}
 use Rattle.receiver.specs.declared.Event.{Event}
 use Rattle.receiver_laws.specs.Whole.{burst_events}
 use Rattle.wire.specs.Messages.{message_in}
-use Rattle.wire.specs.declared.MessageRead.TheVariants.{Message as Says}
 use Rattle.station.specs.Benches.{draws_ok}
 use Rattle.bench_run.specs.BenchRuns.{draws_of, RunSlices, run_causes, run_answer, lines_after, marks_after}
 use Rattle.bench_laws.specs.Demand3.{calls_each}
@@ -27,13 +25,13 @@ times_marked marks i (suc k) = mark_at marks k i + times_marked marks i k
 pub record RunInBytes (n : ℕ) (l : RunSlices) : Type 0 where
   -- station i's message is what its five bytes say
   pub message : ℕ → Message
-  pub says : (i : ℕ) → i < n → message_in (drop (5 * i) l.messages) ≡ Says (message i)
+  pub says : (i : ℕ) → i < n → message_in (drop (5 * i) l.messages) ≡ Ok (message i)
   -- a byte for each call: the line's half-cycle, or 7, exactly where one of its n draws is not 8 to 10
   pub bytes : length (lines_after l) ≡ length l.lines
   pub each : (j : ℕ) → j < length l.lines → (get_or (lines_after l) j 0 ≤ 1) ⊎ (get_or (lines_after l) j 0 ≡ 7)
   pub refused : (j : ℕ) → j < length l.lines → (get_or (lines_after l) j 0 ≡ 7) ↔ (draws_ok (draws_of n l.draws j) ≡ false)
   -- the answer counts the half-cycles
-  pub answer : run_answer l ≡ Done (length (taken (lines_after l)))
+  pub answer : run_answer l ≡ Ok (length (taken (lines_after l)))
   -- once 134 n calls were not refused every station is marked exactly once,
   pub within : calls_each * n ≤ length (taken (lines_after l)) → (i : ℕ) → i < n → times_marked (marks_after l) i (length l.lines) ≡ 1
   -- and none ever twice

@@ -1,11 +1,10 @@
 -- Stations that start together (01, 'Station and bench'): whose burst is on the line, and who finishes with whom. Of any n valid stations, whatever
 -- calls came before; and in the lists of calls of demand 3. The theorems: proofs/StartTogether.antt, proofs/QuietLine.antt.
-use Rattle.std.specs.Prelude.{ℕ, ◌+◌, ◌≤◌, ◌<◌, ◌≡◌, Bool, true, false, List, [], ◌∷◌, reverse, eqb, ltb, length, get_or, take}
+use Rattle.std.specs.Prelude.{ℕ, ◌+◌, ◌≤◌, ◌<◌, ◌≡◌, Bool, true, false, List, [], ◌∷◌, reverse, eqb, ltb, length, get_or, take, Some}
 use Rattle.ground.specs.Choice.{pick}
 use Rattle.message.specs.declared.Message.{Message}
 use Rattle.burst.specs.Frames.{frame_of, burst_of, burst_length}
 use Rattle.station.specs.Stations.{empty_station, station_ok}
-use Rattle.station.specs.declared.Held.TheVariants.{Holds}
 use Rattle.station.specs.declared.Station.{Station}
 use Rattle.bench_run.specs.Calls.{Moment, lines_of, at_start, run}
 use Rattle.bench_laws.specs.Demand3.{Start, times_done}
@@ -25,7 +24,7 @@ Quiet n now = (i : ℕ) → i < n → (station_at now i).place ≡ 0
 
 -- a station with the message m that has counted its wait and sent nothing: "it sends from the next half-cycle"
 pub record Starts (m : Message) (s : Station) : Type 0 where
-  pub holds : s.held ≡ Holds m
+  pub holds : s.held ≡ Some m
   pub counted : s.count ≡ s.wait
   pub unsent : s.place ≡ 0
 

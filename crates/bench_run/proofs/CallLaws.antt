@@ -5,6 +5,7 @@
 --     refused_call_leaves, as_many             RefusedCallLeaves; as many stations after any calls
 --     Calling, calling_first, calling_next     where a run of calls stands: lines and marks so far, the stations, the count
 --     draws_there, draws_left, calling_last    the next call's draws are there; what all calls leave
+use Rattle.std.specs.Prelude.{Result, Ok, Err}
 use mathlib.Core.Path.{◌≡◌, refl, sym, ap, ap₂, subst, ◌∙◌}
 use mathlib.Core.Bool.{Bool, true, false}
 use mathlib.Core.List.{List, [], ◌∷◌, ◌++◌, map-append, flat_map, append-nil}
@@ -20,8 +21,6 @@ use Rattle.ground.specs.declared.Refusal.{Refusal}
 use Rattle.ground.proofs.Lists.{flat_append, flat_length}
 use Rattle.station.specs.Benches.{turn_all, bench_on, most_stations, bench_of, beside}
 use Rattle.station.specs.declared.Station.{Station}
-use Rattle.station.specs.declared.bench.BenchAnswer.{BenchAnswer}
-use Rattle.station.specs.declared.bench.BenchAnswer.TheVariants.{Line, Refused}
 use Rattle.station.specs.declared.bench.BenchTurn.{BenchTurn}
 use Rattle.station.proofs.BenchCases.{Judged, refuses, turns, bench_judged, length-kept, reads_the_first}
 use Rattle.bench_run.specs.Calls.{Moment, at_start, next_moment, call, run, RefusedCallLeaves}
@@ -68,21 +67,21 @@ module _ (most n : ℕ) (now : Moment) (draws : List ℕ) where
   unfolding call
   call_stations = go turn turn.answer
     where
-      go : (o : BenchTurn) (a : BenchAnswer) → (next_moment now o a).stations ≡ o.slots
-      go o (Line h) = refl
-      go o (Refused why) = refl
+      go : (o : BenchTurn) (a : Result ℕ Refusal) → (next_moment now o a).stations ≡ o.slots
+      go o (Ok h) = refl
+      go o (Err why) = refl
 
   -- and one answer more where it was not refused
   pub call_counts : length (call most n now draws).past ≡ length now.past + counts_as turn.answer
   unfolding call
   call_counts = go turn turn.answer
     where
-      go : (o : BenchTurn) (a : BenchAnswer) → length (next_moment now o a).past ≡ length now.past + counts_as a
-      go o (Line h) = sym (add-one (length now.past))
-      go o (Refused why) = sym (add-zero (length now.past))
+      go : (o : BenchTurn) (a : Result ℕ Refusal) → length (next_moment now o a).past ≡ length now.past + counts_as a
+      go o (Ok h) = sym (add-one (length now.past))
+      go o (Err why) = sym (add-zero (length now.past))
 
   -- a call that is refused leaves all
-  refused_leaves : {o : BenchTurn} → Judged most n now.stations draws o → (why : Refusal) → o.answer ≡ Refused why → next_moment now o o.answer ≡ now
+  refused_leaves : {o : BenchTurn} → Judged most n now.stations draws o → (why : Refusal) → o.answer ≡ Err why → next_moment now o o.answer ≡ now
   unfolding turn_all
   refused_leaves (refuses w) why e = refl
   refused_leaves (turns p m q r t) why e = cc

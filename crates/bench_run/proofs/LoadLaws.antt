@@ -1,32 +1,29 @@
 -- Laws of the loops over messages and draws: what one turn takes off.
 --
---     say_cons                               whether messages are said
---     draw_put                               a call's draws
+--     read_says, say_cons                    whether messages are said
 --     loads_length                           a station for each draw
 --     load_answers, load_put, slots_placed   what is left to load answers, and the slots
 --     loads_by_draw                          LoadsByDraw
+use Rattle.std.specs.Prelude.{Result, Ok, Err, is_err, ⊤}
 use mathlib.Core.Path.{◌≡◌, refl, sym, ap, ap₂, ◌∙◌}
-use mathlib.Core.Bool.{Bool, true, false, ◌&&◌, and-eq-true_iff}
+use mathlib.Core.Bool.{Bool, true, false, not, ◌&&◌, and-eq-true_iff}
 use mathlib.Core.List.{List, [], ◌∷◌, ◌++◌}
 use Prim.Native.Nat.{ℕ, suc, ◌+◌, ◌-◌, ◌*◌, ◌≤◌, ◌<◌}
 use native.Mathlib.Numerals.{add-one}
 use native.Mathlib.Omega.{arith}
-use lib.ListN.{length, get_or, set, take, drop, replicate, length-replicate}
-use lib.Seq.{sets, sets-eq, drop-cons, drop-drop, take-suc, take-suc-set, get_or-drop}
+use lib.ListN.{length, get_or, set, drop, replicate, length-replicate}
+use lib.Seq.{sets, sets-eq, drop-cons, drop-drop}
 use Rattle.ground.specs.Choice.{pick}
 use Rattle.ground.specs.Refusals.{judged}
+use Rattle.ground.specs.declared.Refusal.{Refusal}
 use Rattle.ground.specs.declared.Refusal.TheVariants as refusal
 use Rattle.message.specs.Messages.{message_ok}
 use Rattle.message.specs.declared.Message.{Message}
 use Rattle.station.specs.Stations.{empty_station, draw_ok, station_ok, loaded, load_of}
 use Rattle.station.specs.declared.Station.{Station}
 use Rattle.station.specs.declared.Loading.{Loading}
-use Rattle.station.specs.declared.LoadAnswer.{LoadAnswer}
-use Rattle.station.specs.declared.LoadAnswer.TheVariants as load
 use Rattle.station.specs.Benches.{most_stations, draws_ok}
 use Rattle.wire.specs.Messages.{message_in, says_message}
-use Rattle.wire.specs.declared.MessageRead.{MessageRead}
-use Rattle.wire.specs.declared.MessageRead.TheVariants.{Message as Says, Refused as NoMessage}
 use Rattle.wire.proofs.MessageLaws.{messages_read_back}
 use Rattle.bench_run.specs.BenchRuns.{all_say, loading_by, loadings, else_answer, loads_answer, stations_from, LoadsByDraw}
 
@@ -36,6 +33,10 @@ further i bytes =
     let place : 5 * i + 5 ≡ 5 * (i + 1) = omega arith in
     drop-drop 5 (5 * i) bytes ∙ ap (λ (k : ℕ). drop k bytes) place
 
+pub read_says : (r : Result Message Refusal) → says_message r ≡ not (is_err r)
+read_says (Ok m) = refl
+read_says (Err why) = refl
+
 pub say_cons : (k i : ℕ) (bytes : List ℕ) → i < k
     → all_say (k - i) (drop (5 * i) bytes) ≡ (says_message (message_in (drop (5 * i) bytes)) && all_say (k - (i + 1)) (drop (5 * (i + 1)) bytes))
 unfolding all_say
@@ -43,14 +44,6 @@ say_cons k i bytes more =
     let left : k - i ≡ suc (k - (i + 1)) = omega arith in
     ap (λ (n : ℕ). all_say n (drop (5 * i) bytes)) left
     ∙ ap (λ (l : List ℕ). says_message (message_in (drop (5 * i) bytes)) && all_say (k - (i + 1)) l) (further i bytes)
-
-pub draw_put : (own draws : List ℕ) (at i : ℕ) → i < length own → at + i < length draws → length own ≡ 16 → take i own ≡ take i (drop at draws)
-    → (length (drop at draws) ≡ length draws - at) → take (i + 1) (set own i (get_or draws (at + i) 0)) ≡ take (i + 1) (drop at draws)
-draw_put own draws at i inside more long e rest =
-    rw (add-one i)
-    (take-suc-set own i (get_or draws (at + i) 0) inside
-    ∙ ap₂ (λ (x : List ℕ) (y : ℕ). x ++ (y ∷ [])) e (sym (get_or-drop at draws i 0))
-    ∙ sym (take-suc (drop at draws) i 0 (omega arith)))
 
 -- ---- loading
 
@@ -70,13 +63,13 @@ module _ (bytes loads : List ℕ) (i : ℕ) (more : i < length loads) where
       ap (loadings (drop (5 * i) bytes)) (drop-cons loads i 0 more)
       ∙ ap₂ (λ (l : List ℕ) (k : ℕ). loading_at ∷ loadings l (drop k loads)) (further i bytes) (sym (add-one i))
 
-  pub load_answers : (a : LoadAnswer) → loading_at.answer ≡ a
+  pub load_answers : (a : Result ⊤ Refusal) → loading_at.answer ≡ a
       → loads_answer (loadings (drop (5 * i) bytes) (drop i loads))
       ≡ else_answer a (loads_answer (loadings (drop (5 * (i + 1)) bytes) (drop (i + 1) loads)))
   unfolding loads_answer
   load_answers a e =
       ap loads_answer left_loads
-      ∙ ap (λ (x : LoadAnswer). else_answer x (loads_answer (loadings (drop (5 * (i + 1)) bytes) (drop (i + 1) loads)))) e
+      ∙ ap (λ (x : Result ⊤ Refusal). else_answer x (loads_answer (loadings (drop (5 * (i + 1)) bytes) (drop (i + 1) loads)))) e
 
   pub load_put : (slots : List Station)
       → sets (set slots i loading_at.next) (i + 1) (stations_from (loadings (drop (5 * (i + 1)) bytes) (drop (i + 1) loads)))
@@ -98,21 +91,21 @@ slots_placed bytes loads few =
 -- ---- by the draw alone
 
 -- an empty station takes a message that there is, with a draw
-load_by_draw : (m : Message) (draw : ℕ) → message_ok m ≡ true → (load_of empty_station m draw).answer ≡ pick (draw_ok draw) load.Loaded (load.Refused refusal.Draw)
+load_by_draw : (m : Message) (draw : ℕ) → message_ok m ≡ true → (load_of empty_station m draw).answer ≡ pick (draw_ok draw) (Ok tt) (Err refusal.Draw)
 unfolding load_of station_ok judged
 load_by_draw m draw ok = rw ok (go (draw_ok draw))
   where
     took : Bool → Loading
-    took b = pick b (record { answer = load.Loaded; next = loaded m draw }) (record { answer = load.Refused refusal.Draw; next = empty_station })
+    took b = pick b (record { answer = Ok tt; next = loaded m draw }) (record { answer = Err refusal.Draw; next = empty_station })
 
-    go : (b : Bool) → (took b).answer ≡ pick b load.Loaded (load.Refused refusal.Draw)
+    go : (b : Bool) → (took b).answer ≡ pick b (Ok tt) (Err refusal.Draw)
     go true = refl
     go false = refl
 
-loading_by-draw : (read : MessageRead) (draw : ℕ) → ((m : Message) → read ≡ Says m → message_ok m ≡ true) → says_message read ≡ true
-    → (loading_by read draw).answer ≡ pick (draw_ok draw) load.Loaded (load.Refused refusal.Draw)
-loading_by-draw (Says m) draw valid t = load_by_draw m draw (valid m refl)
-loading_by-draw (NoMessage why) draw valid t = cc
+loading_by-draw : (read : Result Message Refusal) (draw : ℕ) → ((m : Message) → read ≡ Ok m → message_ok m ≡ true) → says_message read ≡ true
+    → (loading_by read draw).answer ≡ pick (draw_ok draw) (Ok tt) (Err refusal.Draw)
+loading_by-draw (Ok m) draw valid t = load_by_draw m draw (valid m refl)
+loading_by-draw (Err why) draw valid t = cc
 
 pub loads_by_draw : LoadsByDraw
 unfolding all_say loadings loads_answer draws_ok
@@ -122,7 +115,7 @@ loads_by_draw bytes (d ∷ ds) t =
     let one = loading_by-draw (message_in bytes) d (λ m e. messages_read_back.valid_message _ _ _ _ _ m e) s.0 in
     ap₂ else_answer one (loads_by_draw (drop 5 bytes) ds s.1) ∙ go (draw_ok d) (draws_ok ds)
   where
-    go : (a b : Bool) → else_answer (pick a load.Loaded (load.Refused refusal.Draw)) (pick b load.Loaded (load.Refused refusal.Draw))
-        ≡ pick (a && b) load.Loaded (load.Refused refusal.Draw)
+    go : (a b : Bool) → else_answer (pick a (Ok tt) (Err refusal.Draw)) (pick b (Ok tt) (Err refusal.Draw))
+        ≡ pick (a && b) (Ok tt) (Err refusal.Draw)
     go true b = refl
     go false b = refl

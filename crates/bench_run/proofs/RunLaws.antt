@@ -5,6 +5,7 @@
 --     reported, run_refused         what the run owes by its answer, and where it is refused
 --     Ran, ran, run_ran             what the calls of loaded stations leave, and the run with them
 --     run_lowest                    RunLowest
+use Rattle.std.specs.Prelude.{Result, Ok, Err, ⊤}
 use mathlib.Core.Path.{◌≡◌, refl, sym, ap, subst, ◌∙◌}
 use mathlib.Core.Bool.{Bool, true, false}
 use mathlib.Core.List.{List, [], ◌∷◌, ◌++◌, flat_map}
@@ -16,15 +17,12 @@ use lib.ListN.{length, take, drop, replicate}
 use lib.Seq.{take_at}
 use Rattle.ground.specs.Choice.{pick}
 use Rattle.ground.specs.Refusals.{Cause, when, unless, judged, count_report}
-use Rattle.ground.specs.declared.CountAnswer.{CountAnswer}
-use Rattle.ground.specs.declared.CountAnswer.TheVariants.{Done, Refused}
 use Rattle.ground.specs.declared.Refusal.{Refusal}
 use Rattle.ground.specs.declared.Refusal.TheVariants as refusal
 use Rattle.ground.proofs.Causes.{judged_map, lowest_given}
 use Rattle.station.specs.Stations.{empty_station}
 use Rattle.station.specs.Benches.{most_stations, draws_ok}
 use Rattle.station.specs.declared.Station.{Station}
-use Rattle.station.specs.declared.LoadAnswer.TheVariants as load
 use Rattle.bench_run.specs.BenchRuns.{all_say, loadings, is_loaded, loads_answer}
 use Rattle.bench_run.specs.BenchRuns.{moment_after, turns_of, line_bytes, mark_bytes, RunSlices, call_causes, run_causes, stations_in, moment_in, turns_in}
 use Rattle.bench_run.specs.BenchRuns.{run_answer, run_report, lines_after, marks_after, RunLowest}
@@ -41,36 +39,36 @@ draws_differ n draws calls some e = (rw e (mul-div_cancel_left calls some), rw e
 
 -- an answer that refuses shows which cause applies, whatever else the causes decide
 refused_by : {A : Type 0} (cs : List Cause) (n : ℕ) (why : Refusal) (done : A) (refused : Refusal → A)
-    → Refused why ≡ judged cs (Done n) Refused → refused why ≡ judged cs done refused
+    → Err why ≡ judged cs (Ok n) Err → refused why ≡ judged cs done refused
 unfolding judged
 refused_by [] n why done refused e = cc
 refused_by (when bad w ∷ cs) n why done refused e = go bad e (refused_by cs n why done refused)
   where
-    go : (b : Bool) → Refused why ≡ pick b (Refused w) (judged cs (Done n) Refused)
-        → (Refused why ≡ judged cs (Done n) Refused → refused why ≡ judged cs done refused) → refused why ≡ pick b (refused w) (judged cs done refused)
+    go : (b : Bool) → Err why ≡ pick b (Err w) (judged cs (Ok n) Err)
+        → (Err why ≡ judged cs (Ok n) Err → refused why ≡ judged cs done refused) → refused why ≡ pick b (refused w) (judged cs done refused)
     go true e rest = cc
     go false e rest = rest e
 refused_by (unless fine w ∷ cs) n why done refused e = go fine e (refused_by cs n why done refused)
   where
-    go : (b : Bool) → Refused why ≡ pick b (judged cs (Done n) Refused) (Refused w)
-        → (Refused why ≡ judged cs (Done n) Refused → refused why ≡ judged cs done refused) → refused why ≡ pick b (judged cs done refused) (refused w)
+    go : (b : Bool) → Err why ≡ pick b (judged cs (Ok n) Err) (Err w)
+        → (Err why ≡ judged cs (Ok n) Err → refused why ≡ judged cs done refused) → refused why ≡ pick b (judged cs done refused) (refused w)
     go true e rest = rest e
     go false e rest = cc
 
 -- ---- loading
 
 module _ (l : RunSlices) (said : all_say (length l.messages / 5) l.messages ≡ true) (five : length l.messages ≡ 5 * length l.loads) where
-  by_draw : loads_answer (loadings l.messages l.loads) ≡ pick (draws_ok l.loads) load.Loaded (load.Refused refusal.Draw)
+  by_draw : loads_answer (loadings l.messages l.loads) ≡ pick (draws_ok l.loads) (Ok tt) (Err refusal.Draw)
   by_draw =
       let each : length l.messages / 5 ≡ length l.loads = omega arith in
       loads_by_draw l.messages l.loads (subst (λ (k : ℕ). all_say k l.messages ≡ true) each said)
 
   -- loading that is refused is refused with 7
-  pub load_refused : (why : Refusal) → load.Refused why ≡ loads_answer (loadings l.messages l.loads)
+  pub load_refused : (why : Refusal) → Err why ≡ loads_answer (loadings l.messages l.loads)
       → (why ≡ refusal.Draw) × (is_loaded (loads_answer (loadings l.messages l.loads)) ≡ false)
   load_refused why e = (go (draws_ok l.loads) (e ∙ by_draw), ap is_loaded (sym e))
     where
-      go : (b : Bool) → load.Refused why ≡ pick b load.Loaded (load.Refused refusal.Draw) → why ≡ refusal.Draw
+      go : (b : Bool) → Err why ≡ pick {A = Result ⊤ Refusal} b (Ok tt) (Err refusal.Draw) → why ≡ refusal.Draw
       go true q = cc
       go false q = cc
 
@@ -86,27 +84,27 @@ module _ (l : RunSlices) where
   rest = call_causes (length l.loads) l.draws l.lines l.marks
 
   -- what the run owes
-  abbrev pub Owed : CountAnswer → List ℕ → List ℕ → Type 0
+  abbrev pub Owed : Result ℕ Refusal → List ℕ → List ℕ → Type 0
   Owed o lines marks = (o ≡ run_answer l) × ((count_report o ≡ run_report l) × ((lines ≡ lines_after l) × (marks ≡ marks_after l)))
 
-  pub reported : {o : CountAnswer} → o ≡ run_answer l → count_report o ≡ run_report l
+  pub reported : {o : Result ℕ Refusal} → o ≡ run_answer l → count_report o ≡ run_report l
   unfolding run_answer
   reported e = ap count_report e ∙ judged_map count_report _ _ (run_causes l)
 
-  pub run_refused : (why : Refusal) → Refused why ≡ run_answer l → Owed (Refused why) l.lines l.marks
+  pub run_refused : (why : Refusal) → Err why ≡ run_answer l → Owed (Err why) l.lines l.marks
   unfolding run_answer lines_after marks_after
   run_refused why e =
       let count = length (moment_in l).past in
       (e, (reported e, (refused_by (run_causes l) count why _ (λ w. l.lines) e, refused_by (run_causes l) count why _ (λ w. l.marks) e)))
 
   -- what the calls of loaded stations leave
-  pub record Ran (o : CountAnswer) (lines marks : List ℕ) : Type 0 where
-    pub answer : o ≡ judged rest (Done (length (moment_in l).past)) Refused
+  pub record Ran (o : Result ℕ Refusal) (lines marks : List ℕ) : Type 0 where
+    pub answer : o ≡ judged rest (Ok (length (moment_in l).past)) Err
     pub lines_left : lines ≡ judged rest (line_bytes (turns_in l)) (λ why. l.lines)
     pub marks_left : marks ≡ judged rest (flat_map mark_bytes (turns_in l) ++ drop (2 * length l.lines) l.marks) (λ why. l.marks)
 
-  pub ran : (stations : List Station) (o : CountAnswer) (lines marks : List ℕ) → stations ≡ stations_in l
-      → (o ≡ judged rest (Done (length (moment_after (length l.loads) stations l.draws (length l.lines)).past)) Refused)
+  pub ran : (stations : List Station) (o : Result ℕ Refusal) (lines marks : List ℕ) → stations ≡ stations_in l
+      → (o ≡ judged rest (Ok (length (moment_after (length l.loads) stations l.draws (length l.lines)).past)) Err)
       × ((lines ≡ judged rest (line_bytes (turns_of (length l.loads) stations l.draws (length l.lines))) (λ why. l.lines))
       × (marks ≡ judged rest (flat_map mark_bytes (turns_of (length l.loads) stations l.draws (length l.lines))
       ++ drop (2 * length l.lines) l.marks) (λ why. l.marks)))
@@ -116,7 +114,7 @@ module _ (l : RunSlices) where
       let n = length l.loads in
       let k = length l.lines in
       record {
-        answer = did.0 ∙ ap (λ (s : List Station). judged rest (Done (length (moment_after n s l.draws k).past)) Refused) from;
+        answer = did.0 ∙ ap (λ (s : List Station). judged rest (Ok (length (moment_after n s l.draws k).past)) Err) from;
         lines_left = did.1.0 ∙ ap (λ (s : List Station). judged rest (line_bytes (turns_of n s l.draws k)) (λ why. l.lines)) from;
         marks_left =
             did.1.1
@@ -124,12 +122,12 @@ module _ (l : RunSlices) where
       }
 
   -- and so the run, where the tests before them passed
-  pub run_ran : {o : CountAnswer} {lines marks : List ℕ} → Ran o lines marks → all_say (length l.messages / 5) l.messages ≡ true
+  pub run_ran : {o : Result ℕ Refusal} {lines marks : List ℕ} → Ran o lines marks → all_say (length l.messages / 5) l.messages ≡ true
       → leb 1 (length l.loads) ≡ true → leb (length l.loads) most_stations ≡ true → eqb (length l.messages) (5 * length l.loads) ≡ true
       → is_loaded (loads_answer (loadings l.messages l.loads)) ≡ true → Owed o lines marks
   unfolding run_answer lines_after marks_after judged
   run_ran {o} left said some few five loaded =
-      let answer : o ≡ run_answer l = left.answer ∙ passed (Done (length (moment_in l).past)) Refused in
+      let answer : o ≡ run_answer l = left.answer ∙ passed (Ok (length (moment_in l).past)) Err in
       (answer, (reported answer, (left.lines_left ∙ passed _ (λ why. l.lines), left.marks_left ∙ passed _ (λ why. l.marks))))
     where
       passed : {A : Type 0} (x : A) (f : Refusal → A) → judged rest x f ≡ judged (run_causes l) x f

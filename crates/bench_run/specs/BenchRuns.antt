@@ -1,23 +1,17 @@
 -- A run of the bench over lent bytes: n stations loaded from empty, then calls one after the other. The calls are those of specs/Calls.antt.
-use Rattle.std.specs.Prelude.{ℕ, zero, suc, ◌+◌, ◌*◌, ◌/◌, ◌%◌, ◌≡◌, Bool, true, false, ◌&&◌, eqb, leb, length, take, drop}
+use Rattle.std.specs.Prelude.{ℕ, zero, suc, ◌+◌, ◌*◌, ◌/◌, ◌%◌, ◌≡◌, Bool, true, false, ◌&&◌, eqb, leb, length, take, drop, Result, Ok, Err, ⊤}
 use mathlib.Core.List.{List, [], ◌∷◌, ◌++◌, map, flat_map}
 use Rattle.ground.specs.Choice.{pick}
 use Rattle.ground.specs.Refusals.{refusal_number, Report, reports, refuses, Cause, unless, judged, number_given, lowest}
-use Rattle.ground.specs.declared.CountAnswer.{CountAnswer}
-use Rattle.ground.specs.declared.CountAnswer.TheVariants.{Done, Refused}
+use Rattle.ground.specs.declared.Refusal.{Refusal}
 use Rattle.ground.specs.declared.Refusal.TheVariants as refusal
+use Rattle.message.specs.declared.Message.{Message}
 use Rattle.station.specs.Stations.{empty_station, load_of}
 use Rattle.station.specs.Benches.{most_stations, draws_ok, bench_on}
 use Rattle.station.specs.declared.Station.{Station}
 use Rattle.station.specs.declared.Loading.{Loading}
-use Rattle.station.specs.declared.LoadAnswer.{LoadAnswer}
-use Rattle.station.specs.declared.LoadAnswer.TheVariants as load
-use Rattle.station.specs.declared.bench.BenchAnswer.{BenchAnswer}
-use Rattle.station.specs.declared.bench.BenchAnswer.TheVariants.{Line, Refused as NoLine}
 use Rattle.station.specs.declared.bench.BenchTurn.{BenchTurn}
 use Rattle.wire.specs.Messages.{says_message, message_in}
-use Rattle.wire.specs.declared.MessageRead.{MessageRead}
-use Rattle.wire.specs.declared.MessageRead.TheVariants.{Message as Says, Refused as NoMessage}
 use Rattle.bench_run.specs.Calls.{Moment, at_start, run}
 
 -- ---- the messages and the stations
@@ -28,26 +22,26 @@ all_say zero bytes = true
 all_say (suc k) bytes = says_message (message_in bytes) && all_say k (drop 5 bytes)
 
 -- "At its start the bench's n stations have just been loaded from empty": what loading one answers and leaves. Where no message is read, none is loaded
-abbrev pub loading_by : MessageRead → ℕ → Loading
-loading_by (Says m) draw = load_of empty_station m draw
-loading_by (NoMessage why) draw = record { answer = load.Refused why; next = empty_station }
+abbrev pub loading_by : Result Message Refusal → ℕ → Loading
+loading_by (Ok m) draw = load_of empty_station m draw
+loading_by (Err why) draw = record { answer = Err why; next = empty_station }
 
 -- for each draw, with the next five bytes as its message
 unfoldable pub loadings : List ℕ → List ℕ → List Loading
 loadings bytes [] = []
 loadings bytes (d ∷ ds) = loading_by (message_in bytes) d ∷ loadings (drop 5 bytes) ds
 
-abbrev pub is_loaded : LoadAnswer → Bool
-is_loaded load.Loaded = true
-is_loaded (load.Refused why) = false
+abbrev pub is_loaded : Result ⊤ Refusal → Bool
+is_loaded (Ok tt) = true
+is_loaded (Err why) = false
 
 -- what loading them all answers: the first refusal, if any
-abbrev pub else_answer : LoadAnswer → LoadAnswer → LoadAnswer
-else_answer load.Loaded later = later
-else_answer (load.Refused why) later = load.Refused why
+abbrev pub else_answer : Result ⊤ Refusal → Result ⊤ Refusal → Result ⊤ Refusal
+else_answer (Ok tt) later = later
+else_answer (Err why) later = Err why
 
-unfoldable pub loads_answer : List Loading → LoadAnswer
-loads_answer [] = load.Loaded
+unfoldable pub loads_answer : List Loading → Result ⊤ Refusal
+loads_answer [] = Ok tt
 loads_answer (o ∷ os) = else_answer o.answer (loads_answer os)
 
 abbrev pub stations_from : List Loading → List Station
@@ -77,9 +71,9 @@ turns_of n stations draws (suc k) =
 -- ---- the bytes of a call
 
 -- the line's half-cycle, or the number by which the call was refused
-abbrev pub line_byte : BenchAnswer → ℕ
-line_byte (Line h) = h
-line_byte (NoLine why) = refusal_number why
+abbrev pub line_byte : Result ℕ Refusal → ℕ
+line_byte (Ok h) = h
+line_byte (Err why) = refusal_number why
 
 abbrev pub line_bytes : List BenchTurn → List ℕ
 line_bytes os = map (λ (o : BenchTurn). line_byte o.answer) os
@@ -93,9 +87,9 @@ abbrev pub mark_bytes : BenchTurn → List ℕ
 mark_bytes o = done_mask o.done / 256 % 256 ∷ done_mask o.done % 256 ∷ []
 
 -- 1 for a call that was not refused
-abbrev pub counts_as : BenchAnswer → ℕ
-counts_as (Line h) = 1
-counts_as (NoLine why) = 0
+abbrev pub counts_as : Result ℕ Refusal → ℕ
+counts_as (Ok h) = 1
+counts_as (Err why) = 0
 
 -- ---- the run
 
@@ -139,8 +133,8 @@ unfoldable pub turns_in : RunSlices → List BenchTurn
 turns_in l = turns_of (length l.loads) (stations_in l) l.draws (length l.lines)
 
 -- how many calls were not refused
-unfoldable pub run_answer : RunSlices → CountAnswer
-run_answer l = judged (run_causes l) (Done (length (moment_in l).past)) Refused
+unfoldable pub run_answer : RunSlices → Result ℕ Refusal
+run_answer l = judged (run_causes l) (Ok (length (moment_in l).past)) Err
 
 -- 01's number, and that count
 abbrev pub run_report : RunSlices → Report ℕ
@@ -160,4 +154,4 @@ RunLowest = (l : RunSlices) → lowest (run_causes l) ≡ number_given (run_caus
 -- where every message is said, loading answers 7 for a draw that is not 8 to 10, and no other number: proofs/LoadLaws.antt
 abbrev pub LoadsByDraw : Type 0
 LoadsByDraw = (bytes loads : List ℕ) → all_say (length loads) bytes ≡ true
-    → loads_answer (loadings bytes loads) ≡ pick (draws_ok loads) load.Loaded (load.Refused refusal.Draw)
+    → loads_answer (loadings bytes loads) ≡ pick (draws_ok loads) (Ok tt) (Err refusal.Draw)

@@ -1,14 +1,12 @@
 -- A list of bench calls with a receiver behind them (01, 'Station and bench'): what each call is given, and what is kept of its answer.
 -- Demand 3 speaks of these calls, and the exported run makes them.
-use Rattle.std.specs.Prelude.{ℕ, ◌≡◌, Bool, List, [], ◌∷◌, map}
+use Rattle.std.specs.Prelude.{ℕ, ◌≡◌, Bool, List, [], ◌∷◌, map, Result, Ok, Err}
 use Rattle.ground.specs.declared.Refusal.{Refusal}
 use Rattle.receiver.specs.Receivers.{fresh_receiver, step_of}
 use Rattle.receiver.specs.declared.Receiver.{Receiver}
 use Rattle.receiver.specs.declared.Event.{Event}
 use Rattle.station.specs.Benches.{bench_on}
 use Rattle.station.specs.declared.Station.{Station}
-use Rattle.station.specs.declared.bench.BenchAnswer.{BenchAnswer}
-use Rattle.station.specs.declared.bench.BenchAnswer.TheVariants.{Line, Refused}
 use Rattle.station.specs.declared.bench.BenchTurn.{BenchTurn}
 
 -- a call that was not refused: the line's half-cycle, "which stations are DONE", and what the receiver said to that half-cycle
@@ -35,13 +33,13 @@ at_start stations = record { stations = stations; receiver = fresh_receiver; pas
 
 -- "After each bench call that is not refused, and only then, the receiver is called once with the line's half-cycle just answered, in
 -- the state that its own last call returned or left."
-abbrev pub next_moment : Moment → BenchTurn → BenchAnswer → Moment
-next_moment now turn (Line h) = record {
+abbrev pub next_moment : Moment → BenchTurn → Result ℕ Refusal → Moment
+next_moment now turn (Ok h) = record {
   stations = turn.slots;
   receiver = (step_of now.receiver h).next;
   past = record { line = h; done = turn.done; event = (step_of now.receiver h).event } ∷ now.past;
 }
-next_moment now turn (Refused why) = record { stations = turn.slots; receiver = now.receiver; past = now.past }
+next_moment now turn (Err why) = record { stations = turn.slots; receiver = now.receiver; past = now.past }
 
 -- "Each bench call, a refused one too, gets the same n and .. all n stations as the call before it returned or left them.", whatever the draws;
 -- at most so many stations are allowed
@@ -55,5 +53,5 @@ run most n now (draws ∷ earlier) = call most n (run most n now earlier) draws
 
 -- a refused call leaves the stations, the receiver and the answers so far: proofs/CallLaws.antt
 abbrev pub RefusedCallLeaves : Type 0
-RefusedCallLeaves = (most n : ℕ) (now : Moment) (draws : List ℕ) (why : Refusal) → (bench_on most n now.stations draws).answer ≡ Refused why
+RefusedCallLeaves = (most n : ℕ) (now : Moment) (draws : List ℕ) (why : Refusal) → (bench_on most n now.stations draws).answer ≡ Err why
     → call most n now draws ≡ now

@@ -2,33 +2,25 @@
 
 #![tactic(auto)]
 
-ghost use Rattle.std.specs.Prelude.{◌≡◌, ◌+◌, ◌*◌, ◌/◌, ◌≤◌, length, take, drop, replicate};
+ghost use Rattle.std.specs.Prelude.{◌≡◌, ◌+◌, ◌*◌, ◌/◌, ◌≤◌, length, take, drop, replicate, Ok, Err, IfOk, IfErr};
 ghost use mathlib.Core.List.{◌++◌, flat_map};
 ghost use Rattle.ground.specs.Choice.{pick};
 ghost use Rattle.ground.specs.Refusals.{judged, count_report};
-ghost use Rattle.ground.specs.declared.CountAnswer.TheVariants.{Done, Refused};
 ghost use Rattle.station.specs.Stations.{empty_station};
 ghost use Rattle.station.specs.Benches.{most_stations};
-ghost use Rattle.station.specs.declared.LoadAnswer.TheVariants.{Loaded};
-ghost use Rattle.wire.specs.Messages.{message_in, says_message};
-ghost use Rattle.bench_run.specs.BenchRuns.{all_say, loading_by, loadings, loads_answer, stations_from, moment_after, turns_of};
+ghost use Rattle.wire.specs.Messages.{message_in};
+ghost use Rattle.bench_run.specs.BenchRuns.{all_say, loadings, loads_answer, stations_from, moment_after, turns_of};
 ghost use Rattle.bench_run.specs.BenchRuns.{line_byte, line_bytes, mark_bytes, counts_as, done_mask, call_causes};
 ghost use Rattle.bench_run.specs.BenchRuns.{lent, run_answer, run_report, lines_after, marks_after};
 
-use ground::{CountAnswer, Refusal, refusal_number};
-use station::bench::{BenchAnswer, BenchTurn, SLOTS, half_cycle};
-use station::{LoadAnswer, Loading, Station, empty, load};
-use wire::{MessageRead, message_from};
-
-// What loading all stations answers, and the slots with them.
-#[derive(Clone, Copy)]
-pub(crate) struct Loads {
-    answer: LoadAnswer,
-    slots: [Station; 16],
-}
+use ground::{Refusal, refusal_number};
+use message::Message;
+use station::bench::{BenchTurn, SLOTS, half_cycle};
+use station::{Station, empty, load};
+use wire::message_from;
 
 // The message that stands at a place.
-fn message_at(messages: &[u8], at: usize) -> MessageRead
+fn message_at(messages: &[u8], at: usize) -> Result<Message, Refusal>
     requires { at + 5 ≤ length messages.now }
     ensures { result ≡ message_in (drop at messages.now) }
 {
@@ -41,75 +33,35 @@ fn message_at(messages: &[u8], at: usize) -> MessageRead
     )
 }
 
-// Whether there is a message.
-fn says_message(read: MessageRead) -> bool
-    ensures { result ≡ says_message read }
-{
-    match read {
-        MessageRead::Message(_) => true,
-        MessageRead::Refused(_) => false,
-    }
-}
-
 // Whether every whole five bytes say a message.
 fn messages_fine(messages: &[u8]) -> bool
     ensures { result ≡ all_say (length messages.now / 5) messages.now }
 {
-    let count = messages.len() / 5;
-    let mut i: usize = 0;
-    while i < count {
-        if !says_message(message_at(messages, 5 * i)) {
+    for i in 0..messages.len() / 5 {
+        if message_at(messages, 5 * i).is_err() {
             return false;
         }
-        i += 1;
     }
     true
 }
 
-// What loading an empty station with the message that was read answers and leaves. Where none was read, none is loaded.
-fn loading_by(read: MessageRead, draw: u8) -> Loading
-    ensures { result ≡ loading_by read draw }
-{
-    match read {
-        MessageRead::Message(m) => load(empty(), m, draw),
-        MessageRead::Refused(why) => Loading {
-            answer: LoadAnswer::Refused(why),
-            next: empty(),
-        },
-    }
-}
-
-// What loading a station for each draw answers, and the slots: empty ones past the last station.
-fn load_all(messages: &[u8], loads: &[u8]) -> Loads
+// The slots with a station loaded for each draw, and empty ones past the last station, or the first refusal.
+fn load_all(messages: &[u8], loads: &[u8]) -> Result<[Station; 16], Refusal>
     requires { (length loads.now ≤ 16) × (5 * length loads.now ≤ length messages.now) }
-    ensures answer { result.answer ≡ loads_answer (loadings messages.now loads.now) }
-    ensures slots { result.answer ≡ Loaded
-        → (result.slots ≡ stations_from (loadings messages.now loads.now)
-        ++ drop (length loads.now) (replicate most_stations empty_station)) }
+    ensures loaded { IfOk result (λ slots. (loads_answer (loadings messages.now loads.now) ≡ Ok tt)
+        × (slots ≡ stations_from (loadings messages.now loads.now)
+        ++ drop (length loads.now) (replicate most_stations empty_station))) }
+    ensures refused { IfErr result (λ why. loads_answer (loadings messages.now loads.now) ≡ Err why) }
 {
     let spare = empty();
     let mut slots = [spare; 16];
-    let mut i: usize = 0;
-    while i < loads.len() {
-        let loading = loading_by(message_at(messages, 5 * i), loads[i]);
-        let answer = loading.answer;
-        match answer {
-            LoadAnswer::Refused(why) => {
-                return Loads {
-                    answer: LoadAnswer::Refused(why),
-                    slots: slots,
-                };
-            }
-            LoadAnswer::Loaded => {}
-        }
-        let next = loading.next;
-        slots[i] = next;
-        i += 1;
+    for (i, &draw) in loads.iter().enumerate() {
+        let m = message_at(messages, 5 * i)?;
+        let loading = load(spare, m, draw);
+        loading.answer?;
+        slots[i] = loading.next;
     }
-    Loads {
-        answer: LoadAnswer::Loaded,
-        slots: slots,
-    }
+    Ok(slots)
 }
 
 // The draws of one call, and 0 past the last station.
@@ -118,31 +70,27 @@ fn draws_at(draws: &[u8], at: usize, n: usize) -> [u8; 16]
     ensures { take n result ≡ take n (drop at draws.now) }
 {
     let mut own = [0; 16];
-    let mut i: usize = 0;
-    while i < n {
-        own[i] = draws[at + i];
-        i += 1;
-    }
+    own[..n].copy_from_slice(&draws[at..at + n]);
     own
 }
 
 // What a call puts on the line's byte: the half-cycle, or the number by which it was refused.
-fn line_byte(answer: BenchAnswer) -> u8
+fn line_byte(answer: Result<u8, Refusal>) -> u8
     ensures { result ≡ line_byte answer }
 {
     match answer {
-        BenchAnswer::Line(half) => half,
-        BenchAnswer::Refused(why) => refusal_number(why),
+        Ok(half) => half,
+        Err(why) => refusal_number(why),
     }
 }
 
 // 1 for a call that was not refused.
-fn counts_as(answer: BenchAnswer) -> usize
+fn counts_as(answer: Result<u8, Refusal>) -> usize
     ensures { (result ≡ counts_as answer) × (result ≤ 1) }
 {
     match answer {
-        BenchAnswer::Line(_) => 1,
-        BenchAnswer::Refused(_) => 0,
+        Ok(_) => 1,
+        Err(_) => 0,
     }
 }
 
@@ -158,9 +106,7 @@ fn done_mask(done: [bool; 16]) -> u16
     ensures { result ≡ done_mask done }
 {
     let mut mask: u16 = 0;
-    let mut left: usize = 16;
-    while 0 < left {
-        left -= 1;
+    for left in (0..16).rev() {
         mask = mask % 32768 * 2 + bit_of(done[left]);
     }
     mask
@@ -183,25 +129,20 @@ fn run_all(
         ++ drop (2 * length lines.old) marks.old }
 {
     let mut turn = BenchTurn {
-        answer: BenchAnswer::Line(0),
+        answer: Ok(0),
         done: [false; 16],
-        slots: slots,
+        slots,
     };
     let mut count: usize = 0;
     let mut at: usize = 0;
-    let mut j: usize = 0;
-    while j < lines.len() {
-        let current = turn.slots;
-        turn = half_cycle(current, n, draws_at(draws, at, n));
-        let answer = turn.answer;
-        let done = turn.done;
-        lines[j] = line_byte(answer);
-        let mask = done_mask(done);
+    for j in 0..lines.len() {
+        turn = half_cycle(turn.slots, n, draws_at(draws, at, n));
+        lines[j] = line_byte(turn.answer);
+        let mask = done_mask(turn.done);
         marks[2 * j] = (mask / 256 % 256) as u8;
         marks[2 * j + 1] = (mask % 256) as u8;
-        count += counts_as(answer);
+        count += counts_as(turn.answer);
         at += n;
-        j += 1;
     }
     count
 }
@@ -213,10 +154,10 @@ fn run_loaded(
     draws: &[u8],
     lines: &mut [u8],
     marks: &mut [u8],
-) -> CountAnswer
+) -> Result<usize, Refusal>
     requires { (1 ≤ n) × (n ≤ 16) }
     ensures answer { result ≡ judged (call_causes n draws.now lines.old marks.old)
-        (Done (length (moment_after n (take n slots) draws.now (length lines.old)).past)) Refused }
+        (Ok (length (moment_after n (take n slots) draws.now (length lines.old)).past)) Err }
     ensures lines { lines.new ≡ judged (call_causes n draws.now lines.old marks.old)
         (line_bytes (turns_of n (take n slots) draws.now (length lines.old))) (λ why. lines.old) }
     ensures marks { marks.new ≡ judged (call_causes n draws.now lines.old marks.old)
@@ -225,15 +166,15 @@ fn run_loaded(
 {
     let calls = lines.len();
     if draws.len() / n != calls {
-        return CountAnswer::Refused(Refusal::Draw);
+        return Err(Refusal::Draw);
     }
     if draws.len() % n != 0 {
-        return CountAnswer::Refused(Refusal::Draw);
+        return Err(Refusal::Draw);
     }
     if marks.len() / 2 < calls {
-        return CountAnswer::Refused(Refusal::Short);
+        return Err(Refusal::Short);
     }
-    CountAnswer::Done(run_all(slots, n, draws, lines, marks))
+    Ok(run_all(slots, n, draws, lines, marks))
 }
 
 // Loads a station for each draw of loads, calls the bench once for each byte of lines, and answers how many calls were not refused.
@@ -244,7 +185,7 @@ pub fn run(
     draws: &[u8],
     lines: &mut [u8],
     marks: &mut [u8],
-) -> CountAnswer
+) -> Result<usize, Refusal>
     ensures answer { result ≡ run_answer (lent messages.now loads.now draws.now lines.old marks.old) }
     ensures report { count_report result
         ≡ run_report (lent messages.now loads.now draws.now lines.old marks.old) }
@@ -254,23 +195,18 @@ pub fn run(
         ≡ marks_after (lent messages.now loads.now draws.now lines.old marks.old) }
 {
     if !messages_fine(messages) {
-        return CountAnswer::Refused(Refusal::Message);
+        return Err(Refusal::Message);
     }
     let n = loads.len();
     if n < 1 {
-        return CountAnswer::Refused(Refusal::State);
+        return Err(Refusal::State);
     }
     if SLOTS < n {
-        return CountAnswer::Refused(Refusal::State);
+        return Err(Refusal::State);
     }
     if messages.len() != 5 * n {
-        return CountAnswer::Refused(Refusal::State);
+        return Err(Refusal::State);
     }
-    let loaded = load_all(messages, loads);
-    let answer = loaded.answer;
-    let slots = loaded.slots;
-    match answer {
-        LoadAnswer::Refused(why) => CountAnswer::Refused(why),
-        LoadAnswer::Loaded => run_loaded(slots, n, draws, lines, marks),
-    }
+    let slots = load_all(messages, loads)?;
+    run_loaded(slots, n, draws, lines, marks)
 }

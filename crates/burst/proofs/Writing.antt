@@ -1,6 +1,6 @@
--- Laws of the burst's array: what a turn of each loop does, and what the array then holds.
+-- Laws of the burst's array: what a turn of the loop does, and what the array then holds.
 --
---     pair_put, again_put, front_put     one turn of `put_pairs`, of `put_again`, of `copy_front`
+--     pair_put                           one turn of `put_pairs`
 --     frame_placed, burst_placed         the first frame, and both, in the array
 --     burst_taken                        the burst taken from the array
 --     frame_at_most                      the longest frame
@@ -9,16 +9,17 @@
 --     has_bits, no_bits                  what the answer of `word_of` tells
 --     length-of_word, burst_copied       the writer's count and its buffer
 --     burst_lowest                       BurstLowest
+use Rattle.std.specs.Prelude.{Result, Ok, Err}
 use mathlib.Core.Path.{◌≡◌, refl, sym, ap, ap₂, subst, ◌∙◌}
 use mathlib.Core.Bool.{Bool, true, false, true≢false, false≢true}
-use mathlib.Core.List.{List, ◌∷◌, ◌++◌, append_assoc}
+use mathlib.Core.List.{List, ◌∷◌, ◌++◌}
 use Prim.Native.Nat.{ℕ, zero, suc, ◌+◌, ◌-◌, ◌/◌, ◌%◌, ◌^◌, ◌≤◌, ◌<◌}
-use native.Mathlib.Nat.{not-suc-le-zero, zero-add}
+use native.Mathlib.Nat.{not-suc-le-zero}
 use native.Mathlib.Numerals.{add-one, add-two, sub-one}
 use native.Mathlib.Omega.{arith}
 use lib.Dec.{lit≤}
-use lib.ListN.{length, get_or, set, take, drop, replicate, get_or-append}
-use lib.Seq.{sets, sets-eq, paste, paste-suc, take_at, drop-append-add, length-take-le, get_or-take}
+use lib.ListN.{length, set, take, drop, replicate}
+use lib.Seq.{sets, sets-eq, paste, take_at, drop-append-add}
 use Rattle.ground.specs.Choice.{pick}
 use Rattle.ground.specs.Refusals.{judged}
 use Rattle.ground.specs.declared.Refusal.{Refusal}
@@ -29,8 +30,6 @@ use Rattle.message.specs.Words.{word_of, word_in, word_answer, bit_count}
 use Rattle.message.specs.declared.Message.{Message}
 use Rattle.message.specs.declared.Message.TheVariants.{Address, Function as Command, Extended}
 use Rattle.message.specs.declared.word.Word.{Word}
-use Rattle.message.specs.declared.word.WordAnswer.{WordAnswer}
-use Rattle.message.specs.declared.word.WordAnswer.TheVariants.{Word as Bits, Refused as NoBits}
 use Rattle.burst.specs.Frames.{bits_of, pairs_of, frame_of, frame_length, burst_of, burst_length}
 use Rattle.burst.specs.Writer.{burst_causes, written, frame_bits, BurstLowest}
 use Rattle.burst.proofs.FrameLaws.{frame_length_lem, burst_length_lem}
@@ -42,21 +41,6 @@ pub pair_put : (out : List ℕ) (next left word : ℕ) → 0 < left
 unfolding bits_of pairs_of
 pair_put out next zero word h = absurd (not-suc-le-zero h)
 pair_put out next (suc l) word h = simp (sub-one, add-one, add-two)
-
--- one more entry of the front is put behind it
-pub again_put : (a : List ℕ) (n i : ℕ) → n + i < length a → i < n
-    → set (paste a n a i) (n + i) (get_or (paste a n a i) i 0) ≡ paste a n a (i + 1)
-again_put a n i h hi =
-    let front : get_or (paste a n a i) i 0 ≡ get_or a i 0 =
-    ap (λ (l : List ℕ). get_or l i 0) (append_assoc (take n a) (take i a) (drop (n + i) a))
-    ∙ get_or-append (take n a) (take i a ++ drop (n + i) a) 0 i (subst (λ (k : ℕ). i < k) (sym (length-take-le n a (omega arith))) hi)
-    ∙ get_or-take n a i 0 hi in
-    ap (set (paste a n a i) (n + i)) front ∙ paste-suc a n a i 0 h (omega arith) ∙ ap (paste a n a) (sym (add-one i))
-
--- one more byte of the buffer's front is the array's
-pub front_put : (a b : List ℕ) (i : ℕ) → i < length b → i < length a
-    → set (take i a ++ drop i b) i (get_or a i 0) ≡ take (i + 1) a ++ drop (i + 1) b
-front_put a b i hb ha = rw add-one (simp zero-add at (paste-suc b 0 a i 0 (rw zero-add hb) ha))
 
 -- the array before the pairs are put: the start, then 0
 abbrev pub started : List ℕ
@@ -126,24 +110,24 @@ frame_of-bits (Extended h u d c) = refl
 
 -- ---- what the writer answers
 
-abbrev is_bits : WordAnswer → Bool
-is_bits (Bits w) = true
-is_bits (NoBits why) = false
+abbrev is_bits : Result Word Refusal → Bool
+is_bits (Ok w) = true
+is_bits (Err why) = false
 
 -- the bits of a message, as its answer tells
-pub has_bits : (m : Message) (w : Word) → word_answer m ≡ Bits w → (message_ok m ≡ true) × (w ≡ word_in m)
+pub has_bits : (m : Message) (w : Word) → word_answer m ≡ Ok w → (message_ok m ≡ true) × (w ≡ word_in m)
 unfolding word_answer judged
 has_bits m w e = go (message_ok m) e
   where
-    go : (ok : Bool) → pick ok (Bits (word_in m)) (NoBits refusal.Message) ≡ Bits w → (ok ≡ true) × (w ≡ word_in m)
+    go : (ok : Bool) → pick ok (Ok (word_in m)) (Err refusal.Message) ≡ Ok w → (ok ≡ true) × (w ≡ word_in m)
     go true p = (refl, cc)
     go false p = absurd (false≢true (ap is_bits p))
 
-pub no_bits : (m : Message) (why : Refusal) → word_answer m ≡ NoBits why → (message_ok m ≡ false) × (why ≡ refusal.Message)
+pub no_bits : (m : Message) (why : Refusal) → word_answer m ≡ Err why → (message_ok m ≡ false) × (why ≡ refusal.Message)
 unfolding word_answer judged
 no_bits m why e = go (message_ok m) e
   where
-    go : (ok : Bool) → pick ok (Bits (word_in m)) (NoBits refusal.Message) ≡ NoBits why → (ok ≡ false) × (why ≡ refusal.Message)
+    go : (ok : Bool) → pick ok (Ok (word_in m)) (Err refusal.Message) ≡ Err why → (ok ≡ false) × (why ≡ refusal.Message)
     go true p = absurd (true≢false (ap is_bits p))
     go false p = (refl, cc)
 

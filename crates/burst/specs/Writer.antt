@@ -1,12 +1,11 @@
 -- The burst writer (01, 'Frames and bursts', 'Numbers given back').
-use Rattle.std.specs.Prelude.{ℕ, ◌≡◌, List, [], ◌∷◌, ◌++◌, Bool, ◌||◌, eqb, leb, length, drop}
+use Rattle.std.specs.Prelude.{ℕ, ◌≡◌, List, [], ◌∷◌, ◌++◌, Bool, ◌||◌, eqb, leb, length, drop, Result, Ok, Err}
 use Rattle.ground.specs.Refusals.{Cause, unless, judged, number_given, lowest}
-use Rattle.ground.specs.declared.CountAnswer.{CountAnswer}
-use Rattle.ground.specs.declared.CountAnswer.TheVariants.{Done, Refused}
 use Rattle.ground.specs.declared.Refusal.TheVariants as refusal
 use Rattle.message.specs.Messages.{message_ok}
 use Rattle.message.specs.declared.Message.{Message}
 use Rattle.burst.specs.Frames.{burst_of, burst_length}
+use Rattle.ground.specs.declared.Refusal.{Refusal}
 
 -- whether a frame carries so many bits
 abbrev pub frame_bits : ℕ → Bool
@@ -21,8 +20,8 @@ abbrev pub burst_causes : Message → ℕ → List Cause
 burst_causes m room = unless (message_ok m) refusal.Message ∷ short_causes m room
 
 -- for a message and a buffer's length: the count is that of the half-cycles written
-unfoldable pub burst_answer : Message → ℕ → CountAnswer
-burst_answer m room = judged (burst_causes m room) (Done (burst_length m)) Refused
+unfoldable pub burst_answer : Message → ℕ → Result ℕ Refusal
+burst_answer m room = judged (burst_causes m room) (Ok (burst_length m)) Err
 
 -- the burst at the buffer's front; "bytes beyond it stay"
 unfoldable pub written : Message → List ℕ → List ℕ

@@ -3,54 +3,42 @@
 
 #![tactic(auto)]
 
-use ground::{CountAnswer, refusal_number};
+use ground::{Refusal, refusal_number};
 use message::{Function, Message};
+use std::io;
+use std::io::Write;
 
 // The longest buffer shown.
 const ROOM: usize = 126;
 
-// One line: the name, the number given back, the half-cycles written, and the buffer.
-fn show(name: &[u8], m: Message, length: usize) {
-    let mut space = [b'.'; 126];
+// One line: the name, the number given back, the half-cycles written, and the buffer. A write that fails is passed over.
+fn show(rt: &impl Print, name: &str, m: Message, length: usize) {
+    let mut space = [b'.'; ROOM];
     if ROOM < length {
         return;
     }
-    io::write_all(1, name);
-    io::write_all(1, b"\t");
-    report(burst::write_burst(m, &mut space[..length]));
-    let text = digits(space);
-    io::write_all(1, &text[..length]);
-    io::write_all(1, b"\n");
+    let _ = print!(rt; "{name}\t");
+    report(rt, burst::write_burst(m, &mut space[..length]));
+    let text = space.map(digit);
+    let _ = io::writer(rt).write_all(&text[..length]);
+    let _ = println!(rt);
 }
 
 // The number given back and the count.
-fn report(answer: CountAnswer) {
+fn report(rt: &impl Print, answer: Result<usize, Refusal>) {
     match answer {
-        CountAnswer::Done(n) => print_two(0, n),
-        CountAnswer::Refused(why) => print_two(refusal_number(why) as u64, 0),
+        Ok(n) => print_two(rt, 0, n),
+        Err(why) => print_two(rt, refusal_number(why), 0),
     }
 }
 
-fn print_two(number: u64, count: usize) {
-    io::print_decimal(1, number);
-    io::write_all(1, b"\t");
-    io::print_decimal(1, count as u64);
-    io::write_all(1, b"\t");
+fn print_two(rt: &impl Print, number: u8, count: usize) {
+    let _ = print!(rt; "{number}\t{count}\t");
 }
 
 // A half-cycle as a digit; a byte that was not written stays a dot.
 fn digit(b: u8) -> u8 {
     if b < 2 { b + b'0' } else { b }
-}
-
-fn digits(space: [u8; 126]) -> [u8; 126] {
-    let mut text = space;
-    let mut i = 0;
-    while i < ROOM {
-        text[i] = digit(text[i]);
-        i += 1;
-    }
-    text
 }
 
 // An extended message: B2 to level 5.
@@ -64,10 +52,7 @@ fn extended() -> Message {
 }
 
 fn address(house: u8, unit: u8) -> Message {
-    Message::Address {
-        house: house,
-        unit: unit,
-    }
+    Message::Address { house, unit }
 }
 
 // House A, on.
@@ -86,17 +71,17 @@ fn p_status_request() -> Message {
     }
 }
 
-fn main() {
-    show(b"A1", address(0, 0), 44);
-    show(b"A1", address(0, 0), 46);
-    show(b"A1", address(0, 0), 43);
-    show(b"A1", address(0, 0), 0);
-    show(b"A ON", a_on(), 44);
-    show(b"M13", address(12, 12), 44);
-    show(b"P STATUS REQUEST", p_status_request(), 44);
-    show(b"B2 C5 31", extended(), 124);
-    show(b"B2 C5 31", extended(), 126);
-    show(b"B2 C5 31", extended(), 123);
-    show(b"house 16", address(16, 0), 44);
-    show(b"unit 16", address(0, 16), 43);
+fn main(rt: HostRuntime) {
+    show(&rt, "A1", address(0, 0), 44);
+    show(&rt, "A1", address(0, 0), 46);
+    show(&rt, "A1", address(0, 0), 43);
+    show(&rt, "A1", address(0, 0), 0);
+    show(&rt, "A ON", a_on(), 44);
+    show(&rt, "M13", address(12, 12), 44);
+    show(&rt, "P STATUS REQUEST", p_status_request(), 44);
+    show(&rt, "B2 C5 31", extended(), 124);
+    show(&rt, "B2 C5 31", extended(), 126);
+    show(&rt, "B2 C5 31", extended(), 123);
+    show(&rt, "house 16", address(16, 0), 44);
+    show(&rt, "unit 16", address(0, 16), 43);
 }

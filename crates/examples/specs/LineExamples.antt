@@ -1,5 +1,5 @@
 -- The line examples P1 to P12 (01, 'Line examples'), as one list under a single statement.
-use Rattle.std.specs.Prelude.{ℕ, ◌≡◌, List, [], ◌∷◌, replicate}
+use Rattle.std.specs.Prelude.{ℕ, ◌≡◌, List, [], ◌∷◌, replicate, Result, Ok, Err}
 use Rattle.ground.specs.Refusals.{reports}
 use Rattle.message.specs.declared.Function.TheVariants.{On, Dim, Bright}
 use Rattle.message.specs.declared.Message.{Message}
@@ -10,10 +10,11 @@ use Rattle.radio.specs.declared.RadioCommand.{RadioCommand}
 use Rattle.radio.specs.declared.RadioCommand.TheVariants.{On as RadioOn, Off as RadioOff}
 use Rattle.plan.specs.Plans.{plan_answer}
 use Rattle.plan.specs.declared.Plan.{Plan}
-use Rattle.plan.specs.declared.Plan.TheVariants.{Run, Move, Refused}
+use Rattle.plan.specs.declared.Plan.TheVariants.{Run, Move}
 use Rattle.record.specs.Layout.{GROUPS}
 use Rattle.record.specs.ModuleTable.{lit_of, step_record}
 use Rattle.record.specs.declared.Record.{Record}
+use Rattle.ground.specs.declared.Refusal.{Refusal}
 
 -- an addressed module of this kind (1 lamp, 2 appliance) at this level, in no group
 abbrev pub module_of : ℕ → ℕ → Record
@@ -28,10 +29,10 @@ abbrev pub APPLIANCE : ℕ
 APPLIANCE = 2
 
 -- the level of unit 1's module once a plan is carried out, in a house that has no other and has heard no command since the address
-abbrev pub level_after : Plan → Record → ℕ
-level_after (Run a) r = (step_record a (record { heard = 0; lit = lit_of r }) 0 r).level
-level_after (Move a) r = r.level
-level_after (Refused why) r = r.level
+abbrev pub level_after : Result Plan Refusal → Record → ℕ
+level_after (Ok (Run a)) r = (step_record a (record { heard = 0; lit = lit_of r }) 0 r).level
+level_after (Ok (Move a)) r = r.level
+level_after (Err why) r = r.level
 
 -- an example: a message and its frame; a radio command and its four bytes; four bytes and the number that refuses them; a message of
 -- house A, a module of A1 and the level that the message leaves

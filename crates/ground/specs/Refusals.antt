@@ -1,8 +1,6 @@
 -- Refusals (01, 'Numbers given back'): the number of each, what an answer reports, and the list of causes by which a routine refuses.
-use Rattle.std.specs.Prelude.{ℕ, ◌<◌, min, ◌≡◌, Bool, true, ◌&&◌, not, List, [], ◌∷◌, eqb, leb}
+use Rattle.std.specs.Prelude.{ℕ, ◌<◌, min, ◌≡◌, Bool, true, ◌&&◌, not, List, [], ◌∷◌, eqb, leb, Result, Ok, Err}
 use Rattle.ground.specs.Choice.{pick}
-use Rattle.ground.specs.declared.CountAnswer.{CountAnswer}
-use Rattle.ground.specs.declared.CountAnswer.TheVariants.{Done, Refused}
 use Rattle.ground.specs.declared.Refusal.{Refusal}
 use Rattle.ground.specs.declared.Refusal.TheVariants.{Table, Message, Record, NotCarried, Half, State, Draw}
 use Rattle.ground.specs.declared.Refusal.TheVariants.{Busy, Short, RfLength, Complement, Code, Fault, ShutterTable, ShutterRecord, Opening}
@@ -47,13 +45,13 @@ abbrev pub refuses : {A : Type 0} → Refusal → Report A
 refuses why = record { number = refusal_number why; values = [] }
 
 -- the count of an answer that counts: "Each refusal .. returns its number with count 0"
-abbrev pub count_of : CountAnswer → ℕ
-count_of (Done n) = n
-count_of (Refused why) = 0
+abbrev pub count_of : Result ℕ Refusal → ℕ
+count_of (Ok n) = n
+count_of (Err why) = 0
 
-abbrev pub count_report : CountAnswer → Report ℕ
-count_report (Done n) = reports (n ∷ [])
-count_report (Refused why) = refuses why
+abbrev pub count_report : Result ℕ Refusal → Report ℕ
+count_report (Ok n) = reports (n ∷ [])
+count_report (Err why) = refuses why
 
 -- ---- the causes of a routine, in its own order
 

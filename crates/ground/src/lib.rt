@@ -1,58 +1,51 @@
-// What every routine shares: why it refuses, the number that is given back for it, an answer that counts, the count of one record, and whether bytes are
-// all zeros.
+// What every routine shares: why it refuses and the number that is given back for it, a choice by a test, a number at a place, the count of one record, and
+// whether bytes are all zeros.
 
 #![tactic(auto)]
 
-ghost use Rattle.std.specs.Prelude.{◌≡◌, ◌≤◌};
+ghost use Rattle.std.specs.Prelude.{◌≡◌, ◌≤◌, get_or};
 ghost use Rattle.ground.specs.Choice.{pick};
 ghost use Rattle.ground.specs.Records.{zeros};
 ghost use Rattle.ground.specs.Refusals.{refusal_number};
 
-// Why a routine refuses, in the order of the numbers.
-#[derive(Clone, Copy)]
+// Why a routine refuses, each with the number that is given back for it.
+#[derive(Clone, Copy, Debug, PartialEq, Eq)]
 pub enum Refusal {
     // The module table's length.
-    Table,
+    Table = 1,
     // A house or unit above 15, or numbers that make no message.
-    Message,
+    Message = 2,
     // A module table that breaks a rule.
-    Record,
+    Record = 3,
     // A message that tables do not carry.
-    NotCarried,
+    NotCarried = 4,
     // A half-cycle that is not 0 or 1.
-    Half,
+    Half = 5,
     // A station, a receiver or a bench in a state that there is not.
-    State,
+    State = 6,
     // A draw that is not 8, 9 or 10.
-    Draw,
+    Draw = 7,
     // Loading a station that holds a message.
-    Busy,
+    Busy = 8,
     // A lent buffer without room.
-    Short,
+    Short = 9,
     // Radio bytes: not four, a pair that is not complementary, none of the 544.
-    RfLength,
-    Complement,
-    Code,
+    RfLength = 12,
+    Complement = 13,
+    Code = 14,
     // Sent 1, heard 0.
-    Fault,
+    Fault = 15,
     // The shutter table's length.
-    ShutterTable,
+    ShutterTable = 16,
     // A shutter table that breaks a rule.
-    ShutterRecord,
+    ShutterRecord = 17,
     // A command for shutters with an opening above 25.
-    Opening,
+    Opening = 18,
     // LynX-NET packets: a size that disagrees with the length byte, a check byte that is not the sum, another network than X-10's, a payload of no form.
-    PacketLength,
-    Check,
-    Network,
-    Payload,
-}
-
-// What a routine answers that counts.
-#[derive(Clone, Copy)]
-pub enum CountAnswer {
-    Done(usize),
-    Refused(Refusal),
+    PacketLength = 19,
+    Check = 20,
+    Network = 21,
+    Payload = 22,
 }
 
 // The count of one record: 0 where it is passed over, as one whose value stayed the same, else 1.
@@ -62,15 +55,28 @@ pub fn count_of(passed: bool) -> usize
     if passed { 0 } else { 1 }
 }
 
+// The first value where the test holds, else the second.
+pub fn choose<T: Copy>(b: bool, x: T, y: T) -> T
+    ensures { result ≡ pick b x y }
+{
+    if b { x } else { y }
+}
+
+// The number at place k of a list; there is 0 beyond its end.
+pub fn number_at<const N: usize>(xs: [u8; N], k: u8) -> u8
+    ensures { result ≡ get_or xs.entry k 0 }
+{
+    let i = k as usize;
+    if i < N { xs[i] } else { 0 }
+}
+
 // Whether the bytes are all zeros. Every one is tested: with no early way out sixteen are tested at once.
 fn each_zero(t: &[u8]) -> bool
     ensures { result ≡ zeros t.now }
 {
     let mut none = true;
-    let mut k = 0;
-    while k < t.len() {
-        none = none & (t[k] == 0);
-        k += 1;
+    for &x in t {
+        none = none & (x == 0);
     }
     none
 }
@@ -92,26 +98,5 @@ pub fn zeros(t: &[u8]) -> bool
 pub fn refusal_number(why: Refusal) -> u8
     ensures { result ≡ refusal_number why }
 {
-    match why {
-        Refusal::Table => 1,
-        Refusal::Message => 2,
-        Refusal::Record => 3,
-        Refusal::NotCarried => 4,
-        Refusal::Half => 5,
-        Refusal::State => 6,
-        Refusal::Draw => 7,
-        Refusal::Busy => 8,
-        Refusal::Short => 9,
-        Refusal::RfLength => 12,
-        Refusal::Complement => 13,
-        Refusal::Code => 14,
-        Refusal::Fault => 15,
-        Refusal::ShutterTable => 16,
-        Refusal::ShutterRecord => 17,
-        Refusal::Opening => 18,
-        Refusal::PacketLength => 19,
-        Refusal::Check => 20,
-        Refusal::Network => 21,
-        Refusal::Payload => 22,
-    }
+    why as u8
 }

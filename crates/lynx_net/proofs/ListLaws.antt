@@ -10,6 +10,7 @@
 --     answered, not_answered                 what a payload's reader answers
 --     payload_told, no_payload_told          what that answer tells
 use Rattle.std.proofs.Common.{◌≡◌, ℕ, zero, suc, ◌+◌, ◌-◌, ◌*◌, ◌/◌, ◌^◌, ◌<◌, ◌≤◌, min, Bool, true, false, leb, List, [], ◌∷◌, ◌++◌, map, length, get_or, drop, sym, refl, ap, ◌∙◌, ap₂, append-nil, le_of_suc-le-suc, not-suc-le-zero, add-zero, add-suc, suc-add, pow-suc, zero-add, sub-one, arith, lit<, length-append, length-drop, get_or-drop, drop-cons, shr-shr, leb-true}
+use Rattle.std.specs.Prelude.{Result, Ok, Err, Some, None}
 use native.Mathlib.Nat.{pow-le-pow_right}
 use lib.Seq.{drop-length}
 use Rattle.ground.specs.Choice.{pick}
@@ -26,9 +27,6 @@ use Rattle.lynx_net.specs.declared.payload.Form.TheVariants.{Addresses, Units, E
 use Rattle.lynx_net.specs.declared.payload.Ending.{Ending}
 use Rattle.lynx_net.specs.declared.payload.Ending.TheVariants as ending
 use Rattle.lynx_net.specs.declared.payload.Messages.{Messages}
-use Rattle.lynx_net.specs.declared.payload.MessageAt.TheVariants.{Message as At, Beyond}
-use Rattle.lynx_net.specs.declared.payload.PayloadRead.{PayloadRead}
-use Rattle.lynx_net.specs.declared.payload.PayloadRead.TheVariants as read
 use Rattle.lynx_net.specs.Payloads.{numbers_from, form_in, house_in, units_in, units_fit, fits_form, payload_ok, messages_by, messages_of}
 use Rattle.lynx_net.proofs.FormLaws.{AtMost16, most_of, units_parts, units_length}
 use Rattle.lynx_net.specs.Lists.{number_of, digit_at, ending_list, unit_count, addresses_of, listed, nth, held_by, held_in, payload_causes, payload_answer, payload_report}
@@ -104,12 +102,12 @@ module _ (g : ℕ → Message) where
   each-length k zero = refl
   each-length k (suc n) = ap suc (each-length (suc k) n)
 
-  pub each_at : (k n i : ℕ) → i < n → nth (map g (numbers_from k n)) i ≡ At (g (k + i))
+  pub each_at : (k n i : ℕ) → i < n → nth (map g (numbers_from k n)) i ≡ Some (g (k + i))
   each_at k zero i h = absurd (not-suc-le-zero h)
   each_at k (suc n) zero h = rw (add-zero k)
   each_at k (suc n) (suc i) h = rw (add-suc k i, ← suc-add k i) (each_at (suc k) n i (le_of_suc-le-suc h))
 
-  pub none_at : (k n i : ℕ) → n ≤ i → nth (map g (numbers_from k n)) i ≡ Beyond
+  pub none_at : (k n i : ℕ) → n ≤ i → nth (map g (numbers_from k n)) i ≡ None
   none_at k zero i h = refl
   none_at k (suc n) zero h = absurd (not-suc-le-zero h)
   none_at k (suc n) (suc i) h = none_at (suc k) n i (le_of_suc-le-suc h)
@@ -136,7 +134,7 @@ module _ (ms : Messages) where
   pub count_by : {n : ℕ} → n ≡ unit_count ms → {e : Ending} → ms.ending ≡ e → n + length (ending_list e) ≡ length (listed ms)
   count_by is told = sym (listed_length ∙ ap₂ (λ (k : ℕ) (d : Ending). k + length (ending_list d)) (sym is) told)
 
-  pub address_at : (i : ℕ) → i < unit_count ms → nth (listed ms) i ≡ At (Address ms.house (digit_at ms.units i))
+  pub address_at : (i : ℕ) → i < unit_count ms → nth (listed ms) i ≡ Some (Address ms.house (digit_at ms.units i))
   unfolding listed
   address_at i h =
       nth_here (addresses_of ms) (ending_list ms.ending) i (rw addresses_length h)
@@ -154,23 +152,23 @@ module _ (ms : Messages) where
     ending_told : {e : Ending} → ms.ending ≡ e → nth (listed ms) i ≡ nth (ending_list e) (i - n)
     ending_told {e} told = rw is (ending_at i (rw is at past) ∙ ap (λ (d : Ending). nth (ending_list d) (i - unit_count ms)) told)
 
-    pub nothing_there : ms.ending ≡ ending.Nothing → Beyond ≡ nth (listed ms) i
+    pub nothing_there : ms.ending ≡ ending.Nothing → None ≡ nth (listed ms) i
     nothing_there told = sym (ending_told told)
 
-    pub last_there : (m : Message) → ms.ending ≡ ending.Message m → i ≡ n → At m ≡ nth (listed ms) i
+    pub last_there : (m : Message) → ms.ending ≡ ending.Message m → i ≡ n → Some m ≡ nth (listed ms) i
     last_there m told last =
         let first : i - n ≡ 0 = omega arith in
         sym (ending_told told ∙ ap (nth (m ∷ [])) first)
 
-    pub past_last : (m : Message) → ms.ending ≡ ending.Message m → (i ≡ n → ⊥) → Beyond ≡ nth (listed ms) i
+    pub past_last : (m : Message) → ms.ending ≡ ending.Message m → (i ≡ n → ⊥) → None ≡ nth (listed ms) i
     past_last m told more =
         let later : i - n ≡ suc (i - n - 1) = omega arith in
         sym (ending_told told ∙ ap (nth (m ∷ [])) later)
 
-    pub house_there : (f : Function) → ms.ending ≡ ending.EveryHouse f → i < n + 16 → At (Command (i - n) f) ≡ nth (listed ms) i
+    pub house_there : (f : Function) → ms.ending ≡ ending.EveryHouse f → i < n + 16 → Some (Command (i - n) f) ≡ nth (listed ms) i
     house_there f told h = sym (ending_told told ∙ each_at (λ g. Command g f) 0 16 (i - n) (omega arith) ∙ rw (zero-add (i - n)))
 
-    pub past_houses : (f : Function) → ms.ending ≡ ending.EveryHouse f → n + 16 ≤ i → Beyond ≡ nth (listed ms) i
+    pub past_houses : (f : Function) → ms.ending ≡ ending.EveryHouse f → n + 16 ≤ i → None ≡ nth (listed ms) i
     past_houses f told h = sym (ending_told told ∙ none_at (λ g. Command g f) 0 16 (i - n) (omega arith))
 
 -- ---- the messages of a payload
@@ -214,35 +212,35 @@ module _ (p : List ℕ) where
   payload_reported : payload_report (payload_answer p) ≡ judged (payload_causes p) (reports (messages_of p)) refuses
   unfolding payload_answer
   payload_reported =
-      judged_map payload_report (read.Messages (held_in p)) read.Refused (payload_causes p)
+      judged_map payload_report (Ok (held_in p)) Err (payload_causes p)
       ∙ judged_same refuses (payload_causes p) (λ none. ap reports (listed_held p (none_stops (payload_ok p) refusal.Payload [] none).0))
 
   -- where the payload is one, and where it is none
-  pub answered : {ms : Messages} → payload_ok p ≡ true → ms ≡ held_in p → (read.Messages ms ≡ payload_answer p)
-      × (payload_report (read.Messages ms) ≡ judged (payload_causes p) (reports (messages_of p)) refuses)
+  pub answered : {ms : Messages} → payload_ok p ≡ true → ms ≡ held_in p → (Ok ms ≡ payload_answer p)
+      × (payload_report (Ok ms) ≡ judged (payload_causes p) (reports (messages_of p)) refuses)
   unfolding payload_answer judged
   answered {ms} ok held =
-      let answer : read.Messages ms ≡ payload_answer p = rw ok (ap read.Messages held) in
+      let answer : Ok ms ≡ payload_answer p = rw ok (ap Ok held) in
       (answer, ap payload_report answer ∙ payload_reported)
 
-  pub not_answered : payload_ok p ≡ false → (read.Refused refusal.Payload ≡ payload_answer p)
-      × (payload_report (read.Refused refusal.Payload) ≡ judged (payload_causes p) (reports (messages_of p)) refuses)
+  pub not_answered : payload_ok p ≡ false → (Err refusal.Payload ≡ payload_answer p)
+      × (payload_report (Err refusal.Payload) ≡ judged (payload_causes p) (reports (messages_of p)) refuses)
   unfolding payload_answer judged
-  not_answered bad = let answer : read.Refused refusal.Payload ≡ payload_answer p = rw bad in (answer, ap payload_report answer ∙ payload_reported)
+  not_answered bad = let answer : Err refusal.Payload ≡ payload_answer p = rw bad in (answer, ap payload_report answer ∙ payload_reported)
 
   -- what an answer tells of the payload
-  pub payload_told : {r : PayloadRead} {ms : Messages} → r ≡ payload_answer p → r ≡ read.Messages ms → (payload_ok p ≡ true) × (ms ≡ held_in p)
+  pub payload_told : {r : Result Messages Refusal} {ms : Messages} → r ≡ payload_answer p → r ≡ Ok ms → (payload_ok p ≡ true) × (ms ≡ held_in p)
   unfolding payload_answer judged
   payload_told {r} {ms} e is = go (payload_ok p) (sym e ∙ is)
     where
-      go : (b : Bool) → pick b (read.Messages (held_in p)) (read.Refused refusal.Payload) ≡ read.Messages ms → (b ≡ true) × (ms ≡ held_in p)
+      go : (b : Bool) → pick b (Ok (held_in p)) (Err refusal.Payload) ≡ Ok ms → (b ≡ true) × (ms ≡ held_in p)
       go true q = (refl, cc)
       go false q = let z : ◌≡◌ {A = ℕ} 0 1 = cc in absurd (omega arith)
 
-  pub no_payload_told : {r : PayloadRead} {why : Refusal} → r ≡ payload_answer p → r ≡ read.Refused why → (payload_ok p ≡ false) × (why ≡ refusal.Payload)
+  pub no_payload_told : {r : Result Messages Refusal} {why : Refusal} → r ≡ payload_answer p → r ≡ Err why → (payload_ok p ≡ false) × (why ≡ refusal.Payload)
   unfolding payload_answer judged
   no_payload_told {r} {why} e is = go (payload_ok p) (sym e ∙ is)
     where
-      go : (b : Bool) → pick b (read.Messages (held_in p)) (read.Refused refusal.Payload) ≡ read.Refused why → (b ≡ false) × (why ≡ refusal.Payload)
+      go : (b : Bool) → pick b (Ok (held_in p)) (Err refusal.Payload) ≡ Err why → (b ≡ false) × (why ≡ refusal.Payload)
       go true q = let z : ◌≡◌ {A = ℕ} 0 1 = cc in absurd (omega arith)
       go false q = (refl, cc)

@@ -2,30 +2,24 @@
 --
 --     front_short, front_put     bytes at the front of a buffer that has no room for them, or has
 --     past_causes, alone_written     the same, where it comes after other causes, and for a message's payload
---     command_small              an extended command that has a payload
---     put_next, put_end          one byte of the payload more, and none left
+--     put_next                   one byte of the payload more
 --     check_split                the check byte, the bytes before the payload apart
 --     packet_length, packet_laid     a packet in the buffer
 --     size_small, size_other, size_right, payload_between      what the length byte says
 --     causes_passed, read_reported, packet_told      the number and the parts by the causes, and what they tell
-use Rattle.std.proofs.Common.{◌≡◌, ℕ, zero, suc, ◌+◌, ◌-◌, ◌%◌, ◌^◌, ◌<◌, ◌≤◌, Bool, true, false, ◌||◌, eqb, leb, List, [], ◌∷◌, ◌++◌, length, get_or, take, drop, set, sym, refl, ap, ◌∙◌, add_assoc, add-suc, add-one, arith, length-append, drop-cons, eq-eqb, ne_eqb, eqb-true, le-leb}
+use Rattle.std.proofs.Common.{◌≡◌, ℕ, zero, suc, ◌+◌, ◌-◌, ◌%◌, ◌^◌, ◌<◌, ◌≤◌, true, false, leb, List, [], ◌∷◌, ◌++◌, length, get_or, take, drop, set, sym, refl, ap, ◌∙◌, add_assoc, add-suc, add-one, arith, length-append, drop-cons, eq-eqb, ne_eqb, le-leb, Result, Ok, Err}
 use mathlib.Core.Bool.{and-false}
 use borrow.Author.Tests.{lt-leb}
-use lib.Seq.{sets, drop-length}
+use lib.Seq.{sets}
 use Rattle.ground.specs.Refusals.{Cause, unless, judged, number_given, Report, reports, refuses, count_report}
 use Rattle.ground.specs.Records.{front, sum_below}
-use Rattle.ground.specs.declared.CountAnswer.{CountAnswer}
 use Rattle.ground.specs.declared.Refusal.{Refusal}
-use Rattle.ground.specs.declared.CountAnswer.TheVariants.{Done, Refused}
 use Rattle.ground.specs.declared.Refusal.TheVariants as refusal
 use Rattle.ground.proofs.Causes.{judged_map, judged_same, judged_past, nothing_refused, done_told, none_stops}
 use Rattle.ground.proofs.Lists.{sets-front, sets-append}
 use Rattle.message.specs.Messages.{message_ok}
 use Rattle.message.specs.declared.Message.{Message}
-use Rattle.message.specs.declared.Message.TheVariants.{Extended}
 use Rattle.lynx_net.specs.declared.Packet.{Packet}
-use Rattle.lynx_net.specs.declared.PacketRead.{PacketRead}
-use Rattle.lynx_net.specs.declared.PacketRead.TheVariants as read
 use Rattle.lynx_net.specs.Payloads.{payload_ok, messages_of, payload_of, has_payload}
 use Rattle.lynx_net.specs.Lists.{listed}
 use Rattle.lynx_net.specs.Packets.{NETWORK, check_of, before_check, packet_of, size_ok, payload_in, read_causes, packet_in, read_answer, Parts, parts_of, read_report}
@@ -34,56 +28,45 @@ use Rattle.lynx_net.proofs.ListLaws.{listed_held}
 
 -- ---- bytes at a buffer's front
 
-pub front_short : (bytes buf : List ℕ) → length buf < length bytes → (Refused refusal.Short ≡ front_answer bytes (length buf)) × (buf ≡ front_after bytes buf)
+pub front_short : (bytes buf : List ℕ) → length buf < length bytes → (Err refusal.Short ≡ front_answer bytes (length buf)) × (buf ≡ front_after bytes buf)
 unfolding front_answer front_after judged
 front_short bytes buf h = rw (lt-leb (length bytes) (length buf) h) (refl, refl)
 
 pub front_put : (bytes buf after : List ℕ) → length bytes ≤ length buf → after ≡ sets buf 0 bytes
-    → (Done (length bytes) ≡ front_answer bytes (length buf)) × (after ≡ front_after bytes buf)
+    → (Ok (length bytes) ≡ front_answer bytes (length buf)) × (after ≡ front_after bytes buf)
 unfolding front_answer front_after judged
 front_put bytes buf after h e = rw (le-leb (length bytes) (length buf) h) (refl, e ∙ sets-front bytes buf h)
 
 -- and so after other causes, of which none applies
-pub past_causes : (bytes buf : List ℕ) (cs : List Cause) {r : CountAnswer} {after : List ℕ} → number_given cs ≡ 0
+pub past_causes : (bytes buf : List ℕ) (cs : List Cause) {r : Result ℕ Refusal} {after : List ℕ} → number_given cs ≡ 0
     → r ≡ front_answer bytes (length buf) → after ≡ front_after bytes buf
-    → (r ≡ judged (cs ++ front_causes bytes (length buf)) (Done (length bytes)) Refused)
+    → (r ≡ judged (cs ++ front_causes bytes (length buf)) (Ok (length bytes)) Err)
     × ((count_report r ≡ judged (cs ++ front_causes bytes (length buf)) (reports (length bytes ∷ [])) refuses)
     × (after ≡ judged (cs ++ front_causes bytes (length buf)) (front bytes buf) (λ why. buf)))
 unfolding front_answer front_after
 past_causes bytes buf cs {r} none answer left =
     let short = front_causes bytes (length buf) in
-    let answered : r ≡ judged (cs ++ short) (Done (length bytes)) Refused = answer ∙ past (Done (length bytes)) Refused in
-    (answered, (ap count_report answered ∙ judged_map count_report (Done (length bytes)) Refused (cs ++ short), left ∙ past (front bytes buf) (λ why. buf)))
+    let answered : r ≡ judged (cs ++ short) (Ok (length bytes)) Err = answer ∙ past (Ok (length bytes)) Err in
+    (answered, (ap count_report answered ∙ judged_map count_report (Ok (length bytes)) Err (cs ++ short), left ∙ past (front bytes buf) (λ why. buf)))
   where
     past : {A : Type 0} (done : A) (refused : Refusal → A)
         → judged (front_causes bytes (length buf)) done refused ≡ judged (cs ++ front_causes bytes (length buf)) done refused
     past done refused = sym (judged_past done refused cs (front_causes bytes (length buf)) none)
 
--- of a message n, known to be m, that is valid and has a payload
-pub alone_written : (m n : Message) (buf : List ℕ) {r : CountAnswer} {after : List ℕ} → m ≡ n → message_ok m ≡ true → has_payload m ≡ true
-    → r ≡ front_answer (payload_of n) (length buf) → after ≡ front_after (payload_of n) buf
+-- of a message that is valid and has a payload, the bytes
+pub alone_written : (m : Message) (bytes buf : List ℕ) {r : Result ℕ Refusal} {after : List ℕ} → bytes ≡ payload_of m → message_ok m ≡ true → has_payload m ≡ true
+    → r ≡ front_answer bytes (length buf) → after ≡ front_after bytes buf
     → (r ≡ alone_answer m (length buf))
     × ((count_report r ≡ judged (alone_causes m (length buf)) (reports (length (payload_of m) ∷ [])) refuses) × (after ≡ alone_after m buf))
 unfolding alone_answer alone_after judged
-alone_written m n buf {r} {after} is valid has answer left =
+alone_written m bytes buf {r} {after} is valid has answer left =
     past_causes (payload_of m) buf (unless (message_ok m) refusal.Message ∷ unless (has_payload m) refusal.Payload ∷ []) (rw (valid, has))
-    (answer ∙ ap (λ (k : Message). front_answer (payload_of k) (length buf)) (sym is)) (left ∙ ap (λ (k : Message). front_after (payload_of k) buf) (sym is))
-
--- an extended command that has a payload is 30 or 31
-pub command_small : (h u d c : ℕ) → has_payload (Extended h u d c) ≡ true → c < 128
-command_small h u d c has = go (eqb c 0x30) refl has
-  where
-    go : (b : Bool) → eqb c 0x30 ≡ b → (b || eqb c 0x31) ≡ true → c < 128
-    go true is t = omega (arith, eqb-true c 0x30 is)
-    go false is t = omega (arith, eqb-true c 0x31 t)
+    (answer ∙ ap (λ (l : List ℕ). front_answer l (length buf)) is) (left ∙ ap (λ (l : List ℕ). front_after l buf) is)
 
 -- ---- the payload put
 
 pub put_next : (buf p : List ℕ) (i : ℕ) → i < length p → sets (set buf (4 + i) (get_or p i 0)) (4 + (i + 1)) (drop (i + 1) p) ≡ sets buf (4 + i) (drop i p)
 put_next buf p i h = rw (add-one i, add-suc 4 i, drop-cons p i 0 h)
-
-pub put_end : (buf p : List ℕ) (i at : ℕ) → i ≡ length p → sets buf at (drop i p) ≡ buf
-put_end buf p i at e = rw (e, drop-length p)
 
 -- ---- the check byte
 
@@ -152,7 +135,7 @@ module _ (packet : List ℕ) where
   pub read_reported : read_report packet (read_answer packet) ≡ judged (read_causes packet) (reports (parts_of packet ∷ [])) refuses
   unfolding read_answer
   read_reported =
-      judged_map (read_report packet) (read.Packet (packet_in packet)) read.Refused (read_causes packet)
+      judged_map (read_report packet) (Ok (packet_in packet)) Err (read_causes packet)
       ∙ judged_same refuses (read_causes packet) (λ none. ap told (listed_held (payload_in packet) (causes_passed none)))
     where
       told : List Message → Report Parts
@@ -160,12 +143,12 @@ module _ (packet : List ℕ) where
           record { node = get_or packet 1 0; sequence = get_or packet 2 0; payload = payload_in packet; messages = ms } ∷ [])
 
   -- what an answer tells of a packet: nothing is refused, and the answer has its parts
-  pub packet_told : {r : PacketRead} (p : Packet) → r ≡ read_answer packet → r ≡ read.Packet p
+  pub packet_told : {r : Result Packet Refusal} (p : Packet) → r ≡ read_answer packet → r ≡ Ok p
       → (number_given (read_causes packet) ≡ 0) × (p ≡ packet_in packet) × (listed p.messages ≡ messages_of (payload_in packet))
   unfolding read_answer
   packet_told p e is =
       let answer = sym is ∙ e in
       let none = (done_told (parts_of packet ∷ []) (read_causes packet) (ap (read_report packet) answer ∙ read_reported)).0 in
-      let same = answer ∙ nothing_refused (read.Packet (packet_in packet)) read.Refused (read_causes packet) none in
+      let same = answer ∙ nothing_refused (Ok (packet_in packet)) Err (read_causes packet) none in
       let parts : p ≡ packet_in packet = cc in
       (none, parts, ap (λ (q : Packet). listed q.messages) parts ∙ listed_held (payload_in packet) (causes_passed none))

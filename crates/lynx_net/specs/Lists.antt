@@ -1,6 +1,8 @@
 -- The messages of a payload as one value: up to seventeen, of which a reader is told how many there are and which is the i-th.
 use Rattle.std.specs.Prelude.{ℕ, zero, suc, ◌+◌, ◌-◌, ◌*◌, ◌/◌, ◌%◌, ◌^◌, min, List, [], ◌∷◌, ◌++◌, map, length, slice_index}
+use Rattle.std.specs.Prelude.{Result, Ok, Err, Option, Some, None}
 use Rattle.ground.specs.Refusals.{Report, reports, refuses, Cause, unless, judged}
+use Rattle.ground.specs.declared.Refusal.{Refusal}
 use Rattle.ground.specs.declared.Refusal.TheVariants as refusal
 use Rattle.message.specs.declared.Message.{Message}
 use Rattle.message.specs.declared.Message.TheVariants.{Address, Function as Command, Extended}
@@ -9,10 +11,6 @@ use Rattle.lynx_net.specs.declared.payload.Form.TheVariants.{Addresses, Units, E
 use Rattle.lynx_net.specs.declared.payload.Ending.{Ending}
 use Rattle.lynx_net.specs.declared.payload.Ending.TheVariants as ending
 use Rattle.lynx_net.specs.declared.payload.Messages.{Messages}
-use Rattle.lynx_net.specs.declared.payload.MessageAt.{MessageAt}
-use Rattle.lynx_net.specs.declared.payload.MessageAt.TheVariants.{Message as At, Beyond}
-use Rattle.lynx_net.specs.declared.payload.PayloadRead.{PayloadRead}
-use Rattle.lynx_net.specs.declared.payload.PayloadRead.TheVariants as read
 use Rattle.lynx_net.specs.Payloads.{form_in, house_in, units_in, numbers_from, houses, payload_ok}
 
 -- ---- units as one number
@@ -45,9 +43,9 @@ unfoldable pub listed : Messages → List Message
 listed ms = addresses_of ms ++ ending_list ms.ending
 
 -- the i-th of a list, from 0 on
-abbrev pub nth : List Message → ℕ → MessageAt
-nth [] i = Beyond
-nth (m ∷ ms) zero = At m
+abbrev pub nth : List Message → ℕ → Option Message
+nth [] i = None
+nth (m ∷ ms) zero = Some m
 nth (m ∷ ms) (suc i) = nth ms i
 
 -- ---- the value of a payload
@@ -74,10 +72,10 @@ held_in p = held_by (form_in p) p
 abbrev pub payload_causes : List ℕ → List Cause
 payload_causes p = unless (payload_ok p) refusal.Payload ∷ []
 
-unfoldable pub payload_answer : List ℕ → PayloadRead
-payload_answer p = judged (payload_causes p) (read.Messages (held_in p)) read.Refused
+unfoldable pub payload_answer : List ℕ → Result Messages Refusal
+payload_answer p = judged (payload_causes p) (Ok (held_in p)) Err
 
 -- the number and the messages of each answer
-abbrev pub payload_report : PayloadRead → Report Message
-payload_report (read.Messages ms) = reports (listed ms)
-payload_report (read.Refused why) = refuses why
+abbrev pub payload_report : Result Messages Refusal → Report Message
+payload_report (Ok ms) = reports (listed ms)
+payload_report (Err why) = refuses why

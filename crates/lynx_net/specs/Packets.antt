@@ -1,15 +1,12 @@
 -- LynX-NET packets (02, A6; source 002, 'Overview'): network, node, sequence, length, data, check byte.
-use Rattle.std.specs.Prelude.{ℕ, ◌+◌, ◌-◌, ◌%◌, ◌^◌, Bool, ◌&&◌, List, [], ◌∷◌, ◌++◌, length, take, drop, ◌==◌, nat_le, slice_index}
+use Rattle.std.specs.Prelude.{ℕ, ◌+◌, ◌-◌, ◌%◌, ◌^◌, Bool, ◌&&◌, List, [], ◌∷◌, ◌++◌, length, take, drop, ◌==◌, nat_le, slice_index, Result, Ok, Err}
 use Rattle.ground.specs.Records.{sum_below, front}
 use Rattle.ground.specs.Refusals.{Report, reports, refuses, Cause, unless, judged}
-use Rattle.ground.specs.declared.CountAnswer.{CountAnswer}
-use Rattle.ground.specs.declared.CountAnswer.TheVariants.{Done, Refused}
+use Rattle.ground.specs.declared.Refusal.{Refusal}
 use Rattle.ground.specs.declared.Refusal.TheVariants as refusal
 use Rattle.message.specs.Messages.{message_ok}
 use Rattle.message.specs.declared.Message.{Message}
 use Rattle.lynx_net.specs.declared.Packet.{Packet}
-use Rattle.lynx_net.specs.declared.PacketRead.{PacketRead}
-use Rattle.lynx_net.specs.declared.PacketRead.TheVariants as read
 use Rattle.lynx_net.specs.Payloads.{payload_ok, messages_of, payload_of, has_payload}
 use Rattle.lynx_net.specs.Lists.{listed, held_in}
 
@@ -61,8 +58,8 @@ abbrev pub packet_in : List ℕ → Packet
 packet_in packet =
     record { node = slice_index packet 1; sequence = slice_index packet 2; length = slice_index packet 3; messages = held_in (payload_in packet) }
 
-unfoldable pub read_answer : List ℕ → PacketRead
-read_answer packet = judged (read_causes packet) (read.Packet (packet_in packet)) read.Refused
+unfoldable pub read_answer : List ℕ → Result Packet Refusal
+read_answer packet = judged (read_causes packet) (Ok (packet_in packet)) Err
 
 -- "The reader gives node, sequence, payload and its messages"
 pub record Parts : Type 0 where
@@ -82,9 +79,9 @@ parts_told packet p =
     record { node = p.node; sequence = p.sequence; payload = take p.length (drop 4 packet); messages = listed p.messages }
 
 -- the number and the parts of each answer
-abbrev pub read_report : List ℕ → PacketRead → Report Parts
-read_report packet (read.Packet p) = reports (parts_told packet p ∷ [])
-read_report packet (read.Refused why) = refuses why
+abbrev pub read_report : List ℕ → Result Packet Refusal → Report Parts
+read_report packet (Ok p) = reports (parts_told packet p ∷ [])
+read_report packet (Err why) = refuses why
 
 -- ---- the writer
 
@@ -92,8 +89,8 @@ read_report packet (read.Refused why) = refuses why
 abbrev pub front_causes : List ℕ → ℕ → List Cause
 front_causes bytes room = unless (nat_le (length bytes) room) refusal.Short ∷ []
 
-unfoldable pub front_answer : List ℕ → ℕ → CountAnswer
-front_answer bytes room = judged (front_causes bytes room) (Done (length bytes)) Refused
+unfoldable pub front_answer : List ℕ → ℕ → Result ℕ Refusal
+front_answer bytes room = judged (front_causes bytes room) (Ok (length bytes)) Err
 
 unfoldable pub front_after : List ℕ → List ℕ → List ℕ
 front_after bytes buf = judged (front_causes bytes (length buf)) (front bytes buf) (λ why. buf)
@@ -102,9 +99,9 @@ front_after bytes buf = judged (front_causes bytes (length buf)) (front bytes bu
 abbrev pub write_causes : ℕ → ℕ → List ℕ → ℕ → List Cause
 write_causes node sequence payload room = unless (payload_ok payload) refusal.Payload ∷ front_causes (packet_of node sequence payload) room
 
-unfoldable pub write_answer : ℕ → ℕ → List ℕ → ℕ → CountAnswer
+unfoldable pub write_answer : ℕ → ℕ → List ℕ → ℕ → Result ℕ Refusal
 write_answer node sequence payload room =
-    judged (write_causes node sequence payload room) (Done (length (packet_of node sequence payload))) Refused
+    judged (write_causes node sequence payload room) (Ok (length (packet_of node sequence payload))) Err
 
 unfoldable pub buffer_after : ℕ → ℕ → List ℕ → List ℕ → List ℕ
 buffer_after node sequence payload buf =
@@ -116,8 +113,8 @@ buffer_after node sequence payload buf =
 abbrev pub alone_causes : Message → ℕ → List Cause
 alone_causes m room = unless (message_ok m) refusal.Message ∷ unless (has_payload m) refusal.Payload ∷ front_causes (payload_of m) room
 
-unfoldable pub alone_answer : Message → ℕ → CountAnswer
-alone_answer m room = judged (alone_causes m room) (Done (length (payload_of m))) Refused
+unfoldable pub alone_answer : Message → ℕ → Result ℕ Refusal
+alone_answer m room = judged (alone_causes m room) (Ok (length (payload_of m))) Err
 
 unfoldable pub alone_after : Message → List ℕ → List ℕ
 alone_after m buf = judged (alone_causes m (length buf)) (front (payload_of m) buf) (λ why. buf)

@@ -1,5 +1,5 @@
 -- What holds of every packet, payload and message (02, A6): proofs/Theorems.antt.
-use Rattle.std.specs.Prelude.{◌≡◌, ℕ, ◌+◌, ◌<◌, ◌≤◌, true, List, [], ◌∷◌, map, length, take, slice_index}
+use Rattle.std.specs.Prelude.{◌≡◌, ℕ, ◌+◌, ◌<◌, ◌≤◌, true, List, [], ◌∷◌, map, length, take, slice_index, Ok}
 use Rattle.ground.specs.Refusals.{reports, refuses, cause_number}
 use Rattle.ground.specs.declared.Refusal.TheVariants as refusal
 use Rattle.message.specs.Messages.{message_ok}
@@ -8,7 +8,6 @@ use Rattle.message.specs.declared.Message.{Message}
 use Rattle.message.specs.declared.Message.TheVariants.{Function as Command}
 use Rattle.lynx_net.specs.Payloads.{payload_ok, messages_of, payload_of, has_payload}
 use Rattle.lynx_net.specs.Packets.{packet_of, payload_in, read_causes, read_answer, read_report, write_causes, buffer_after, alone_causes}
-use Rattle.lynx_net.specs.declared.PacketRead.TheVariants as read
 use Rattle.lynx_net.specs.declared.Packet.{Packet}
 
 -- "Writing then reading gives back all three": node, sequence and payload, and with it the payload's messages, of the bytes that the writer put at the
@@ -23,7 +22,7 @@ WrittenRead =
 -- "reading then writing the packet": what is read of a packet, written again, is that packet
 abbrev pub ReadWritten : Type 0
 ReadWritten =
-    (packet : List ℕ) (p : Packet) → read_answer packet ≡ read.Packet p → packet_of p.node p.sequence (payload_in packet) ≡ packet
+    (packet : List ℕ) (p : Packet) → read_answer packet ≡ Ok p → packet_of p.node p.sequence (payload_in packet) ≡ packet
 
 -- "a message makes the payload that means it alone"
 abbrev pub MeansItAlone : Type 0

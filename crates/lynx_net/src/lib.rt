@@ -9,8 +9,8 @@ ghost use Rattle.ground.specs.Refusals.{judged, reports, refuses, count_report};
 ghost use Rattle.lynx_net.specs.Packets.{NETWORK, check_of, packet_of, read_causes, read_answer, read_report, parts_of};
 ghost use Rattle.lynx_net.specs.Packets.{front_answer, front_after, write_causes, write_answer, buffer_after};
 
-use crate::payload::{Messages, PayloadRead, messages_in, payload_ok};
-use ground::{CountAnswer, Refusal};
+use crate::payload::{Messages, messages_in, payload_ok};
+use ground::Refusal;
 
 pub mod payload;
 
@@ -26,56 +26,45 @@ pub struct Packet {
     pub messages: Messages,
 }
 
-// What bytes are read as.
-#[derive(Clone, Copy)]
-pub enum PacketRead {
-    Packet(Packet),
-    Refused(Refusal),
-}
-
 // The check byte of the bytes before it: their sum, each carry out of eight bits dropped.
 pub fn check_of(bytes: &[u8]) -> u8
     ensures { result ≡ check_of bytes.now }
 {
     let mut sum: u8 = 0;
-    let mut k = 0;
-    while k < bytes.len() {
-        sum = std::num::wrapping_add_u8(sum, bytes[k]);
-        k += 1;
+    for &byte in bytes {
+        sum = sum.wrapping_add(byte);
     }
     sum
 }
 
 // Reads a packet: its node, its sequence, its payload by the length, and the payload's messages.
 // Refused, in this order: 19, 20, 21, 22.
-pub fn read(packet: &[u8]) -> PacketRead
+pub fn read(packet: &[u8]) -> Result<Packet, Refusal>
     ensures answer { result ≡ read_answer packet.now }
     ensures report { read_report packet.now result ≡ judged (read_causes packet.now) (reports (parts_of packet.now ∷ [])) refuses }
 {
     let n = packet.len();
     if n < 5 {
-        return PacketRead::Refused(Refusal::PacketLength);
+        return Err(Refusal::PacketLength);
     }
     let length = packet[3];
     if n - 5 != length as usize {
-        return PacketRead::Refused(Refusal::PacketLength);
+        return Err(Refusal::PacketLength);
     }
     let last = n - 1;
     if packet[last] != check_of(&packet[..last]) {
-        return PacketRead::Refused(Refusal::Check);
+        return Err(Refusal::Check);
     }
     if packet[0] != NETWORK {
-        return PacketRead::Refused(Refusal::Network);
+        return Err(Refusal::Network);
     }
-    match messages_in(&packet[4..last]) {
-        PayloadRead::Messages(ms) => PacketRead::Packet(Packet {
-            node: packet[1],
-            sequence: packet[2],
-            length: length,
-            messages: ms,
-        }),
-        PayloadRead::Refused(why) => PacketRead::Refused(why),
-    }
+    let messages = messages_in(&packet[4..last])?;
+    Ok(Packet {
+        node: packet[1],
+        sequence: packet[2],
+        length,
+        messages,
+    })
 }
 
 // Puts the four bytes before a payload of so many bytes at the buffer's front.
@@ -97,12 +86,9 @@ fn put_payload(payload: &[u8], buf: &mut [u8], head: u8) -> u8
     ensures buf_after { buf.new ≡ sets buf.old 4 payload.now }
 {
     let mut sum = head;
-    let mut i = 0;
-    while i < payload.len() {
-        let byte = payload[i];
+    for (i, &byte) in payload.iter().enumerate() {
         buf[4 + i] = byte;
-        sum = std::num::wrapping_add_u8(sum, byte);
-        i += 1;
+        sum = sum.wrapping_add(byte);
     }
     sum
 }
@@ -111,38 +97,39 @@ fn put_payload(payload: &[u8], buf: &mut [u8], head: u8) -> u8
 fn head_sum(node: u8, sequence: u8, count: u8) -> u8
     ensures { result ≡ (NETWORK + node + sequence + count) % 2 ^ 8 }
 {
-    let two = std::num::wrapping_add_u8(NETWORK, node);
-    let three = std::num::wrapping_add_u8(two, sequence);
-    std::num::wrapping_add_u8(three, count)
+    NETWORK
+        .wrapping_add(node)
+        .wrapping_add(sequence)
+        .wrapping_add(count)
 }
 
 // Writes the packet of a payload, if the buffer has room: what is left of the writer once the payload is one.
-fn write_around(node: u8, sequence: u8, payload: &[u8], buf: &mut [u8]) -> CountAnswer
+fn write_around(node: u8, sequence: u8, payload: &[u8], buf: &mut [u8]) -> Result<usize, Refusal>
     requires { length payload.now ≤ 19 }
     ensures value { result ≡ front_answer (packet_of node sequence payload.now) (length buf.old) }
     ensures buf_after { buf.new ≡ front_after (packet_of node sequence payload.now) buf.old }
 {
     let n = payload.len();
     if buf.len() < n + 5 {
-        return CountAnswer::Refused(Refusal::Short);
+        return Err(Refusal::Short);
     }
     let count = n as u8;
     put_head(buf, node, sequence, count);
     let check = put_payload(payload, buf, head_sum(node, sequence, count));
     buf[n + 4] = check;
-    CountAnswer::Done(n + 5)
+    Ok(n + 5)
 }
 
 // Writes the packet of a node, a sequence and a payload to the front of a lent buffer, and answers how many bytes; bytes beyond it stay.
 // Refused, in this order: 22, 9.
-pub fn write(node: u8, sequence: u8, payload: &[u8], buf: &mut [u8]) -> CountAnswer
+pub fn write(node: u8, sequence: u8, payload: &[u8], buf: &mut [u8]) -> Result<usize, Refusal>
     ensures answer { result ≡ write_answer node sequence payload.now (length buf.old) }
     ensures report { count_report result ≡ judged (write_causes node sequence payload.now (length buf.old))
         (reports (length (packet_of node sequence payload.now) ∷ [])) refuses }
     ensures buffer { buf.new ≡ buffer_after node sequence payload.now buf.old }
 {
     if !payload_ok(payload) {
-        return CountAnswer::Refused(Refusal::Payload);
+        return Err(Refusal::Payload);
     }
     write_around(node, sequence, payload, buf)
 }

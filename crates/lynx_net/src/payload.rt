@@ -1,14 +1,12 @@
 // The payload of a packet on the X-10 network: the messages that it stands for, and the payload that a message makes.
 ghost use Rattle.std.specs.Prelude.{◌≡◌, ◌<◌, ◌≤◌, true, [], ◌∷◌, length};
-ghost use Rattle.std.proofs.lemmas.List.Edits.{sets};
 ghost use Rattle.ground.specs.Refusals.{judged, reports, refuses, count_report};
-ghost use Rattle.message.specs.declared.Message.TheVariants.{Address, Function as Command, Extended};
 ghost use Rattle.lynx_net.specs.Payloads.{form_of, units_in, units_fit, closed_units, closed_extended, closed_alone, fits_form, payload_ok, messages_of};
 ghost use Rattle.lynx_net.specs.Payloads.{payload_of, function_sent, has_payload};
 ghost use Rattle.lynx_net.specs.Lists.{number_of, unit_count, listed, nth, with_units, ending_only, held_by, payload_causes, payload_answer, payload_report};
 ghost use Rattle.lynx_net.specs.Packets.{front_answer, front_after, alone_causes, alone_answer, alone_after};
 
-use ground::{CountAnswer, Refusal};
+use ground::Refusal;
 use message::codes::function_code;
 use message::{Function, Message};
 
@@ -26,7 +24,7 @@ pub enum Form {
     ExtendedCode(u8),
     // FF: the function for each house.
     EveryHouse(Function),
-    // No payload begins with this byte.
+    // No payload begins with this byte. A case and no `None`: the definitions speak of `form_of` and its forms.
     Unknown,
 }
 
@@ -47,22 +45,6 @@ pub struct Messages {
     pub count: u8,
     pub units: u64,
     pub ending: Ending,
-}
-
-// One of these messages.
-#[derive(Clone, Copy)]
-pub enum MessageAt {
-    Message(Message),
-    // There are not so many.
-    Beyond,
-}
-
-// What a payload is read as.
-#[derive(Clone, Copy)]
-pub enum PayloadRead {
-    Messages(Messages),
-    // Bytes of none of the forms.
-    Refused(Refusal),
 }
 
 // The form that a first byte asks for.
@@ -93,10 +75,8 @@ fn units_fit(units: &[u8]) -> bool
     ensures { result ≡ units_fit units.now }
 {
     let mut fit = true;
-    let mut k = 0;
-    while k < units.len() {
-        fit = fit & (units[k] <= 15);
-        k += 1;
+    for &unit in units {
+        fit = fit & (unit <= 15);
     }
     fit
 }
@@ -107,9 +87,7 @@ fn number_of(units: &[u8]) -> u64
     ensures { result ≡ number_of units.now }
 {
     let mut number = 0;
-    let mut k = units.len();
-    while 0 < k {
-        k -= 1;
+    for k in (0..units.len()).rev() {
         number = number * 16 + units[k] as u64;
     }
     number
@@ -178,9 +156,9 @@ pub fn payload_ok(payload: &[u8]) -> bool
 }
 
 // The addresses of a house and units, and what ends them.
-fn with_units(payload: &[u8], end: Ending) -> Messages
+fn with_units(payload: &[u8], ending: Ending) -> Messages
     requires { (3 ≤ length payload.now) × (length payload.now ≤ 19) × (units_fit (units_in payload.now) ≡ true) }
-    ensures { result ≡ with_units payload.now end }
+    ensures { result ≡ with_units payload.now ending }
 {
     let n = payload.len();
     let last = n - 1;
@@ -188,18 +166,18 @@ fn with_units(payload: &[u8], end: Ending) -> Messages
         house: payload[1],
         count: (n - 3) as u8,
         units: number_of(&payload[2..last]),
-        ending: end,
+        ending,
     }
 }
 
-fn ended_by(end: Ending) -> Messages
-    ensures { result ≡ ending_only end }
+fn ended_by(ending: Ending) -> Messages
+    ensures { result ≡ ending_only ending }
 {
     Messages {
         house: 0,
         count: 0,
         units: 0,
-        ending: end,
+        ending,
     }
 }
 
@@ -214,17 +192,14 @@ fn held_by(form: Form, payload: &[u8]) -> Messages
             let house = payload[1];
             with_units(
                 payload,
-                Ending::Message(Message::Function {
-                    house: house,
-                    function: function,
-                }),
+                Ending::Message(Message::Function { house, function }),
             )
         }
         Form::ExtendedCode(command) => ended_by(Ending::Message(Message::Extended {
             house: payload[1],
             unit: payload[2],
             data: payload[4],
-            command: command,
+            command,
         })),
         Form::EveryHouse(function) => ended_by(Ending::EveryHouse(function)),
         Form::Unknown => ended_by(Ending::Nothing),
@@ -232,18 +207,18 @@ fn held_by(form: Form, payload: &[u8]) -> Messages
 }
 
 // The messages that a payload stands for. Refuses bytes of none of the forms.
-pub fn messages_in(payload: &[u8]) -> PayloadRead
+pub fn messages_in(payload: &[u8]) -> Result<Messages, Refusal>
     ensures answer { result ≡ payload_answer payload.now }
     ensures report { payload_report result ≡ judged (payload_causes payload.now) (reports (messages_of payload.now)) refuses }
 {
     if payload.len() < 2 {
-        return PayloadRead::Refused(Refusal::Payload);
+        return Err(Refusal::Payload);
     }
     let form = form_of(payload[0]);
     if !fits_form(form, payload) {
-        return PayloadRead::Refused(Refusal::Payload);
+        return Err(Refusal::Payload);
     }
-    PayloadRead::Messages(held_by(form, payload))
+    Ok(held_by(form, payload))
 }
 
 // How many units are addressed: of a value with more than sixteen, sixteen.
@@ -258,8 +233,7 @@ pub fn message_count(ms: Messages) -> usize
     ensures { result ≡ length (listed ms) }
 {
     let n = unit_count(ms);
-    let end = ms.ending;
-    match end {
+    match ms.ending {
         Ending::Nothing => n,
         Ending::Message(_) => n + 1,
         Ending::EveryHouse(_) => n + 16,
@@ -267,31 +241,26 @@ pub fn message_count(ms: Messages) -> usize
 }
 
 // The i-th message, from 0 on.
-pub fn message_at(ms: Messages, i: usize) -> MessageAt
+pub fn message_at(ms: Messages, i: usize) -> Option<Message>
     ensures { result ≡ nth (listed ms) i }
 {
     let n = unit_count(ms);
     if i < n {
-        return MessageAt::Message(Message::Address {
+        return Some(Message::Address {
             house: ms.house,
             unit: ((ms.units >> (4 * i)) % 16) as u8,
         });
     }
-    let end = ms.ending;
-    match end {
-        Ending::Nothing => MessageAt::Beyond,
-        Ending::Message(m) => if i == n {
-            MessageAt::Message(m)
-        } else {
-            MessageAt::Beyond
-        },
+    match ms.ending {
+        Ending::Nothing => None,
+        Ending::Message(m) => if i == n { Some(m) } else { None },
         Ending::EveryHouse(function) => if i < n + 16 {
-            MessageAt::Message(Message::Function {
+            Some(Message::Function {
                 house: (i - n) as u8,
-                function: function,
+                function,
             })
         } else {
-            MessageAt::Beyond
+            None
         },
     }
 }
@@ -300,20 +269,10 @@ pub fn message_at(ms: Messages, i: usize) -> MessageAt
 fn function_sent(function: Function) -> bool
     ensures { result ≡ function_sent function }
 {
-    match function {
-        Function::AllUnitsOff => true,
-        Function::AllLightsOn => true,
-        Function::On => true,
-        Function::Off => true,
-        Function::Dim => false,
-        Function::Bright => false,
-        Function::AllLightsOff => true,
-        Function::HailRequest => false,
-        Function::HailAcknowledge => false,
-        Function::StatusOn => true,
-        Function::StatusOff => true,
-        Function::StatusRequest => true,
-    }
+    !matches!(
+        function,
+        Function::Dim | Function::Bright | Function::HailRequest | Function::HailAcknowledge,
+    )
 }
 
 // Whether a payload means the message alone.
@@ -321,88 +280,49 @@ fn has_payload(m: Message) -> bool
     ensures { result ≡ has_payload m }
 {
     match m {
-        Message::Address { house: _, unit: _ } => true,
-        Message::Function { house: _, function } => function_sent(function),
-        Message::Extended {
-            house: _,
-            unit: _,
-            data: _,
-            command,
-        } => (command == 0x30) | (command == 0x31),
+        Message::Address { .. } => true,
+        Message::Function { function, .. } => function_sent(function),
+        Message::Extended { command, .. } => (command == 0x30) | (command == 0x31),
     }
 }
 
-// Puts three bytes at the buffer's front.
-fn put_three(buf: &mut [u8], a: u8, b: u8, c: u8)
-    requires { 3 ≤ length buf.old }
-    ensures { buf.new ≡ sets buf.old 0 (a ∷ b ∷ c ∷ []) }
+// Puts bytes to the buffer's front, if it has room, and answers how many.
+fn put_front(bytes: &[u8], buf: &mut [u8]) -> Result<usize, Refusal>
+    ensures value { result ≡ front_answer bytes.now (length buf.old) }
+    ensures buf_after { buf.new ≡ front_after bytes.now buf.old }
 {
-    buf[0] = a;
-    buf[1] = b;
-    buf[2] = c;
-}
-
-// Writes the payload of an address: 08, its house and unit, FF.
-fn write_address(house: u8, unit: u8, buf: &mut [u8]) -> CountAnswer
-    ensures value { result ≡ front_answer (payload_of (Address house unit)) (length buf.old) }
-    ensures buf_after { buf.new ≡ front_after (payload_of (Address house unit)) buf.old }
-{
-    if buf.len() < 4 {
-        return CountAnswer::Refused(Refusal::Short);
+    let n = bytes.len();
+    if buf.len() < n {
+        return Err(Refusal::Short);
     }
-    put_three(buf, 0x08, house, unit);
-    buf[3] = CLOSE;
-    CountAnswer::Done(4)
-}
-
-// Writes the payload of a function: 10 and its code, the house, FF.
-fn write_function(house: u8, function: Function, buf: &mut [u8]) -> CountAnswer
-    ensures value { result ≡ front_answer (payload_of (Command house function)) (length buf.old) }
-    ensures buf_after { buf.new ≡ front_after (payload_of (Command house function)) buf.old }
-{
-    if buf.len() < 3 {
-        return CountAnswer::Refused(Refusal::Short);
-    }
-    put_three(buf, 0x10 + function_code(function), house, CLOSE);
-    CountAnswer::Done(3)
-}
-
-// Writes the payload of an extended message: 80 and its command, its house and unit, FF, the data byte.
-fn write_extended(house: u8, unit: u8, data: u8, command: u8, buf: &mut [u8]) -> CountAnswer
-    requires { command < 128 }
-    ensures value { result ≡ front_answer (payload_of (Extended house unit «data» command)) (length buf.old) }
-    ensures buf_after { buf.new ≡ front_after (payload_of (Extended house unit «data» command)) buf.old }
-{
-    if buf.len() < 5 {
-        return CountAnswer::Refused(Refusal::Short);
-    }
-    put_three(buf, 0x80 + command, house, unit);
-    buf[3] = CLOSE;
-    buf[4] = data;
-    CountAnswer::Done(5)
+    buf[..n].copy_from_slice(bytes);
+    Ok(n)
 }
 
 // Writes the payload that means a message alone to the front of a lent buffer, and answers how many bytes; bytes beyond it stay.
 // Refused, in this order: 2, 22 for a message that has none, 9.
-pub fn write_payload(m: Message, buf: &mut [u8]) -> CountAnswer
+pub fn write_payload(m: Message, buf: &mut [u8]) -> Result<usize, Refusal>
     ensures answer { result ≡ alone_answer m (length buf.old) }
     ensures report { count_report result ≡ judged (alone_causes m (length buf.old)) (reports (length (payload_of m) ∷ [])) refuses }
     ensures buffer { buf.new ≡ alone_after m buf.old }
 {
     if !message::valid(m) {
-        return CountAnswer::Refused(Refusal::Message);
+        return Err(Refusal::Message);
     }
     if !has_payload(m) {
-        return CountAnswer::Refused(Refusal::Payload);
+        return Err(Refusal::Payload);
     }
+    // 08, the house and the unit, FF; 10 and the function's code, the house, FF; 80 and the command, the house and the unit, FF, the data byte.
     match m {
-        Message::Address { house, unit } => write_address(house, unit, buf),
-        Message::Function { house, function } => write_function(house, function, buf),
+        Message::Address { house, unit } => put_front(&[0x08, house, unit, CLOSE], buf),
+        Message::Function { house, function } => {
+            put_front(&[0x10 + function_code(function), house, CLOSE], buf)
+        }
         Message::Extended {
             house,
             unit,
             data,
             command,
-        } => write_extended(house, unit, data, command, buf),
+        } => put_front(&[0x80 + command, house, unit, CLOSE, data], buf),
     }
 }

@@ -5,8 +5,10 @@
 --     code_below, number_below               codes and numbers are below 16
 --     meaning_of-function, function_of_meaning     a function's code read back, both ways
 --     extended_meaning, function_code-below        code 7 alone is extended; function codes are below 16
+--     function_refused                             a code that is no function is refused by 2
 --     extended_below                               the four numbers of a valid extended message; data and command are bytes
 --     same_is_equal                                SameIsEqual
+use Rattle.std.specs.Prelude.{Ok, Err}
 use mathlib.Core.Path.{◌≡◌, refl, sym, ap, ap₂, subst, ◌∙◌}
 use mathlib.Core.Bool.{Bool, true, false, false≢true, ◌&&◌, and-eq-true_iff}
 use mathlib.Core.List.{List, [], ◌∷◌}
@@ -22,9 +24,10 @@ use Rattle.message.specs.Codes.{line_codes, place_in, code_of, number_of, functi
 use Rattle.message.specs.Codes.{function_code, meanings, meaning_of, function_read, function_answer}
 use Rattle.message.specs.Codes.{CodesOneToOne, NamesOneToOne, CodesReadBack}
 use Rattle.message.specs.Messages.{message_ok, same_message, SameIsEqual}
+use Rattle.ground.specs.declared.Refusal.{Refusal}
+use Rattle.ground.specs.declared.Refusal.TheVariants as refusal
 use Rattle.message.specs.declared.Message.{Message}
 use Rattle.message.specs.declared.Message.TheVariants.{Address, Function as Command, Extended as Longer}
-use Rattle.message.specs.declared.codes.FunctionRead.TheVariants.{Function as Is}
 use Rattle.message.specs.declared.Function.{Function}
 use Rattle.message.specs.declared.Function.TheVariants.{AllUnitsOff, AllLightsOn, On, Off, Dim, Bright}
 use Rattle.message.specs.declared.Function.TheVariants.{AllLightsOff, HailRequest, HailAcknowledge, StatusOn, StatusOff, StatusRequest}
@@ -139,10 +142,20 @@ function_code-below StatusRequest = lit< tt
 -- ---- a function read back from its code
 
 -- a meaning that is read as a function is that function
-read_as : (m : Meaning) (f : Function) → function_read m ≡ Is f → m ≡ Carries f
+read_as : (m : Meaning) (f : Function) → function_read m ≡ Ok f → m ≡ Carries f
 read_as (Carries g) f e = cc
 read_as Extended f e = cc
 read_as Unsupported f e = cc
+
+-- a meaning that is no function is refused by 2
+refused_as : (m : Meaning) {why : Refusal} → function_read m ≡ Err why → why ≡ refusal.Message
+refused_as (Carries g) e = cc
+refused_as Extended e = cc
+refused_as Unsupported e = cc
+
+pub function_refused : (c : ℕ) {why : Refusal} → function_answer c ≡ Err why → why ≡ refusal.Message
+unfolding function_answer
+function_refused c e = refused_as (meaning_of c) e
 
 -- what is past the last code stands for nothing
 within : (c : ℕ) (f : Function) → meaning_of c ≡ Carries f → c < 16

@@ -4,6 +4,7 @@
 --     head_of_extended, standard_of-head  the first nine bits of an extended message, and what they say
 --     standard_of-address, standard_of-function, extended_of-word     the word of a valid message read back, kind by kind
 --     words_read_back, words_one_to_one   WordsReadBack, WordsOneToOne
+use Rattle.std.specs.Prelude.{Result, Ok}
 use mathlib.Core.Path.{◌≡◌, sym, ap, ◌∙◌}
 use mathlib.Core.Bool.{true}
 use Prim.Native.Nat.{ℕ, ◌/◌, ◌%◌, ◌^◌, ◌<◌}
@@ -16,8 +17,10 @@ use Rattle.message.specs.Words.{extended_of, extended_answer, read_word, WordsRe
 use Rattle.message.specs.declared.Function.{Function}
 use Rattle.message.specs.declared.Message.{Message}
 use Rattle.message.specs.declared.Message.TheVariants.{Address, Function as Command, Extended}
+use Rattle.message.specs.declared.word.Reading.{Reading}
 use Rattle.message.specs.declared.word.Reading.TheVariants.{Message as Says, Longer as More}
 use Rattle.ground.specs.Refusals.{judged}
+use Rattle.ground.specs.declared.Refusal.{Refusal}
 use Rattle.ground.proofs.Choices.{below_sixteen, both_below}
 use Rattle.message.proofs.CodeLaws.{code_below, number_of-code, meaning_of-function, function_code-below, extended_below}
 
@@ -79,12 +82,12 @@ extended_of-word h u d c t =
 
 -- ---- every message
 
-standard_read : (w : ℕ) → w < 512 → standard_answer w ≡ standard_of w
+standard_read : (w : ℕ) → w < 512 → standard_answer w ≡ Ok (standard_of w)
 unfolding standard_answer judged
 standard_read w h = rw (lt-ltb w 512 h)
 
 extended_read : (h u d c : ℕ) → message_ok (Extended h u d c) ≡ true
-    → extended_answer (word_of (Extended h u d c)) ≡ Says (extended_of (word_of (Extended h u d c)))
+    → extended_answer (word_of (Extended h u d c)) ≡ Ok (Says (extended_of (word_of (Extended h u d c))))
 unfolding extended_answer judged
 extended_read h u d c t =
     let p = extended_below h u d c t in
@@ -94,13 +97,13 @@ extended_read h u d c t =
     rw (lt-ltb w (2 ^ 29) within, eq-eqb (w / 2 ^ 20 % 32) 15 head)
 
 pub words_read_back : WordsReadBack
-words_read_back (Address h u) t = standard_read (word_of (Address h u)) (word_below (Address h u) t) ∙ standard_of-address h u t
-words_read_back (Command h f) t = standard_read (word_of (Command h f)) (word_below (Command h f) t) ∙ standard_of-function h f t
-words_read_back (Extended h u d c) t = extended_read h u d c t ∙ ap Says (extended_of-word h u d c t)
+words_read_back (Address h u) t = standard_read (word_of (Address h u)) (word_below (Address h u) t) ∙ ap Ok (standard_of-address h u t)
+words_read_back (Command h f) t = standard_read (word_of (Command h f)) (word_below (Command h f) t) ∙ ap Ok (standard_of-function h f t)
+words_read_back (Extended h u d c) t = extended_read h u d c t ∙ ap (λ m. Ok (Says m)) (extended_of-word h u d c t)
 
 pub words_one_to_one : WordsOneToOne
 words_one_to_one m n tm tn e =
-    let p : Says m ≡ Says n = sym (words_read_back m tm) ∙ ap read_word e ∙ words_read_back n tn in
+    let p : ◌≡◌ {A = Result Reading Refusal} (Ok (Says m)) (Ok (Says n)) = sym (words_read_back m tm) ∙ ap read_word e ∙ words_read_back n tn in
     cc
 
 -- nine bits of a house, code 7 and function bit 1 say that an extended message has begun

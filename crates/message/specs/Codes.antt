@@ -1,5 +1,5 @@
 -- Code numbers (01, 'Code numbers'; XTC798, the tables of house codes, unit codes and functions).
-use Rattle.std.specs.Prelude.{ℕ, zero, suc, ◌-◌, ◌<◌, ◌≡◌, Bool, true, false, List, [], ◌∷◌, ◌++◌, eqb, length, get_or, replicate}
+use Rattle.std.specs.Prelude.{ℕ, zero, suc, ◌-◌, ◌<◌, ◌≡◌, Bool, true, false, List, [], ◌∷◌, ◌++◌, eqb, length, get_or, replicate, Result, Ok, Err}
 use Rattle.ground.specs.Choice.{pick}
 use Rattle.ground.specs.Text.{bytes_of}
 use Rattle.ground.specs.Refusals.{Report, reports, refuses, Cause, unless}
@@ -9,8 +9,7 @@ use Rattle.message.specs.declared.Function.TheVariants.{AllUnitsOff, AllLightsOn
 use Rattle.message.specs.declared.Function.TheVariants.{AllLightsOff, HailRequest, HailAcknowledge, StatusOn, StatusOff, StatusRequest}
 use Rattle.message.specs.declared.codes.Meaning.{Meaning}
 use Rattle.message.specs.declared.codes.Meaning.TheVariants.{Function as Carries, Extended, Unsupported}
-use Rattle.message.specs.declared.codes.FunctionRead.{FunctionRead}
-use Rattle.message.specs.declared.codes.FunctionRead.TheVariants.{Function as Is, Refused}
+use Rattle.ground.specs.declared.Refusal.{Refusal}
 
 -- "Houses A to P and units 1 to 16 share one table of four-bit codes, in order"
 unfoldable pub line_codes : List ℕ
@@ -56,25 +55,25 @@ unfoldable pub meaning_of : ℕ → Meaning
 meaning_of c = get_or meanings c Unsupported
 
 -- what a function's code is read as: 2 for a code that makes no function, and so no message
-abbrev pub function_read : Meaning → FunctionRead
-function_read (Carries f) = Is f
-function_read Extended = Refused refusal.Message
-function_read Unsupported = Refused refusal.Message
+abbrev pub function_read : Meaning → Result Function Refusal
+function_read (Carries f) = Ok f
+function_read Extended = Err refusal.Message
+function_read Unsupported = Err refusal.Message
 
-unfoldable pub function_answer : ℕ → FunctionRead
+unfoldable pub function_answer : ℕ → Result Function Refusal
 function_answer c = function_read (meaning_of c)
 
-abbrev pub is_function : FunctionRead → Bool
-is_function (Is f) = true
-is_function (Refused why) = false
+abbrev pub is_function : Result Function Refusal → Bool
+is_function (Ok f) = true
+is_function (Err why) = false
 
 abbrev pub function_causes : ℕ → List Cause
 function_causes c = unless (is_function (function_answer c)) refusal.Message ∷ []
 
 -- 01's number and value for each answer
-abbrev pub function_report : FunctionRead → Report Function
-function_report (Is f) = reports (f ∷ [])
-function_report (Refused why) = refuses why
+abbrev pub function_report : Result Function Refusal → Report Function
+function_report (Ok f) = reports (f ∷ [])
+function_report (Err why) = refuses why
 
 -- "the function name listed above in capitals with its spaces", each at its code; XTC798's names at 7, 10, 11 and 12
 unfoldable pub function_names : List (List ℕ)
@@ -105,5 +104,5 @@ NamesOneToOne = (i j : ℕ) → i < 16 → j < 16 → name_at i ≡ name_at j �
 pub record CodesReadBack : Type 0 where
   pub number_of-code : (n : ℕ) → n < 16 → number_of (code_of n) ≡ n
   pub code_of-number : (c : ℕ) → c < 16 → code_of (number_of c) ≡ c
-  pub function_of_code : (f : Function) → function_answer (function_code f) ≡ Is f
-  pub code_of-function : (c : ℕ) (f : Function) → function_answer c ≡ Is f → function_code f ≡ c
+  pub function_of_code : (f : Function) → function_answer (function_code f) ≡ Ok f
+  pub code_of-function : (c : ℕ) (f : Function) → function_answer c ≡ Ok f → function_code f ≡ c

@@ -1,5 +1,5 @@
 -- The bits that a message's frame carries, as one number, highest bit first (01, 'Frames and bursts').
-use Rattle.std.specs.Prelude.{ℕ, ◌+◌, ◌*◌, ◌/◌, ◌%◌, ◌^◌, ◌≡◌, true, List, [], ◌∷◌, eqb, ltb}
+use Rattle.std.specs.Prelude.{ℕ, ◌+◌, ◌*◌, ◌/◌, ◌%◌, ◌^◌, ◌≡◌, true, List, [], ◌∷◌, eqb, ltb, Result, Ok, Err}
 use Rattle.ground.specs.Refusals.{Report, reports, refuses, Cause, unless, judged}
 use Rattle.ground.specs.declared.Refusal.TheVariants as refusal
 use Rattle.message.specs.Messages.{message_ok}
@@ -10,10 +10,9 @@ use Rattle.message.specs.declared.Message.TheVariants.{Address, Function as Comm
 use Rattle.message.specs.declared.codes.Meaning.{Meaning}
 use Rattle.message.specs.declared.codes.Meaning.TheVariants.{Function as Carries, Extended as Longer, Unsupported}
 use Rattle.message.specs.declared.word.Word.{Word}
-use Rattle.message.specs.declared.word.WordAnswer.{WordAnswer}
-use Rattle.message.specs.declared.word.WordAnswer.TheVariants.{Word as Bits, Refused as NoBits}
 use Rattle.message.specs.declared.word.Reading.{Reading}
-use Rattle.message.specs.declared.word.Reading.TheVariants.{Message as Says, Longer as More, Unsupported as Unread, Refused as NotRead}
+use Rattle.message.specs.declared.word.Reading.TheVariants.{Message as Says, Longer as More, Unsupported as Unread}
+use Rattle.ground.specs.declared.Refusal.{Refusal}
 
 -- "Standard: house 4 bits, code 4 bits, function bit"
 abbrev pub nine : ℕ → ℕ → ℕ → ℕ
@@ -38,12 +37,12 @@ word_in m = record { bits = word_of m; count = bit_count m }
 abbrev pub word_causes : Message → List Cause
 word_causes m = unless (message_ok m) refusal.Message ∷ []
 
-unfoldable pub word_answer : Message → WordAnswer
-word_answer m = judged (word_causes m) (Bits (word_in m)) NoBits
+unfoldable pub word_answer : Message → Result Word Refusal
+word_answer m = judged (word_causes m) (Ok (word_in m)) Err
 
-abbrev pub word_report : WordAnswer → Report Word
-word_report (Bits w) = reports (w ∷ [])
-word_report (NoBits why) = refuses why
+abbrev pub word_report : Result Word Refusal → Report Word
+word_report (Ok w) = reports (w ∷ [])
+word_report (Err why) = refuses why
 
 -- ---- the same read back
 
@@ -67,30 +66,33 @@ extended_of w = Extended (number_of (w / 2 ^ 25 % 16)) (number_of (w / 2 ^ 16 % 
 abbrev pub standard_causes : ℕ → List Cause
 standard_causes w = unless (ltb w (2 ^ 9)) refusal.State ∷ []
 
-unfoldable pub standard_answer : ℕ → Reading
-standard_answer w = judged (standard_causes w) (standard_of w) NotRead
+unfoldable pub standard_answer : ℕ → Result Reading Refusal
+standard_answer w = judged (standard_causes w) (Ok (standard_of w)) Err
 
 abbrev pub extended_causes : ℕ → List Cause
 extended_causes w = unless (ltb w (2 ^ 29)) refusal.State ∷ unless (eqb (w / 2 ^ 20 % 32) 15) refusal.State ∷ []
 
-unfoldable pub extended_answer : ℕ → Reading
-extended_answer w = judged (extended_causes w) (Says (extended_of w)) NotRead
+unfoldable pub extended_answer : ℕ → Result Reading Refusal
+extended_answer w = judged (extended_causes w) (Ok (Says (extended_of w))) Err
 
 -- 01's number and value for each reading: "10, 11 .. receiver events, not refusals"
-abbrev pub reading_report : Reading → Report Message
-reading_report (Says m) = reports (m ∷ [])
-reading_report More = reports []
-reading_report Unread = record { number = 11; values = [] }
-reading_report (NotRead why) = refuses why
+abbrev pub said : Reading → Report Message
+said (Says m) = reports (m ∷ [])
+said More = reports []
+said Unread = record { number = 11; values = [] }
+
+abbrev pub reading_report : Result Reading Refusal → Report Message
+reading_report (Ok r) = said r
+reading_report (Err why) = refuses why
 
 -- ---- what holds of every valid message: proofs/WordLaws.antt
 
 -- what the bits of a message say, by their count
-abbrev pub read_word : Word → Reading
+abbrev pub read_word : Word → Result Reading Refusal
 read_word w = pick (eqb w.count 9) (standard_answer w.bits) (extended_answer w.bits)
 
 abbrev pub WordsReadBack : Type 0
-WordsReadBack = (m : Message) → message_ok m ≡ true → read_word (word_in m) ≡ Says m
+WordsReadBack = (m : Message) → message_ok m ≡ true → read_word (word_in m) ≡ Ok (Says m)
 
 -- two valid messages with the same bits are one message
 abbrev pub WordsOneToOne : Type 0

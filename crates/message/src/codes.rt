@@ -14,13 +14,6 @@ pub(crate) enum Meaning {
     Unsupported,
 }
 
-// What a function's code is read as.
-#[derive(Clone, Copy)]
-pub enum FunctionRead {
-    Function(Function),
-    Refused(Refusal),
-}
-
 // The four-bit code of each house or unit number.
 const LINE_CODES: [u8; 16] = [6, 14, 2, 10, 1, 9, 5, 13, 7, 15, 3, 11, 0, 8, 4, 12];
 
@@ -68,7 +61,7 @@ const FUNCTION_NAMES: [[u8; 16]; 16] = [
     *b"STATUS REQUEST\0\0",
 ];
 
-// The code of a house or unit number, and 0 for a number above 15.
+// The code of a house or unit number, and 0 for a number above 15: no `Option` here and below, since `code_of` and `number_of` say so.
 pub(crate) fn line_code(number: u8) -> u8
     ensures { result ≡ code_of number }
 {
@@ -87,20 +80,7 @@ pub(crate) fn line_number(code: u8) -> u8
 pub fn function_code(f: Function) -> u8
     ensures { result ≡ function_code f }
 {
-    match f {
-        Function::AllUnitsOff => 0,
-        Function::AllLightsOn => 1,
-        Function::On => 2,
-        Function::Off => 3,
-        Function::Dim => 4,
-        Function::Bright => 5,
-        Function::AllLightsOff => 6,
-        Function::HailRequest => 8,
-        Function::HailAcknowledge => 9,
-        Function::StatusOn => 13,
-        Function::StatusOff => 14,
-        Function::StatusRequest => 15,
-    }
+    f as u8
 }
 
 // What a code stands for where the function bit is 1. A number above 15 is no code, and unsupported.
@@ -116,14 +96,14 @@ pub(crate) fn meaning_at(code: u8) -> Meaning
 }
 
 // The function that has a code. Refused where none of the twelve has it.
-pub fn function_at(code: u8) -> FunctionRead
+pub fn function_at(code: u8) -> Result<Function, Refusal>
     ensures answer { result ≡ function_answer code }
     ensures number { (function_report result).number ≡ number_given (function_causes code) }
 {
     match meaning_at(code) {
-        Meaning::Function(f) => FunctionRead::Function(f),
-        Meaning::Extended => FunctionRead::Refused(Refusal::Message),
-        Meaning::Unsupported => FunctionRead::Refused(Refusal::Message),
+        Meaning::Function(f) => Ok(f),
+        Meaning::Extended => Err(Refusal::Message),
+        Meaning::Unsupported => Err(Refusal::Message),
     }
 }
 

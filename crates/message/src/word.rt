@@ -1,7 +1,7 @@
 // The bits that a frame carries, as one number of 9 or 29 bits, and the message that such a number says.
 ghost use Rattle.std.specs.Prelude.{◌≡◌, ◌∷◌, []};
 ghost use Rattle.ground.specs.Refusals.{judged, reports, refuses, refusal_number};
-ghost use Rattle.message.specs.Words.{word_of, word_in, nine, standard_of, extended_of, word_causes, word_answer};
+ghost use Rattle.message.specs.Words.{word_of, word_in, nine, standard_of, extended_of, said, word_causes, word_answer};
 ghost use Rattle.message.specs.Words.{word_report, standard_causes, standard_answer, extended_causes, extended_answer, reading_report};
 
 use crate::codes::{Meaning, function_code, line_code, line_number, meaning_at};
@@ -15,20 +15,12 @@ pub struct Word {
     pub count: u32,
 }
 
-// The bits of a message, or why it has none.
-#[derive(Clone, Copy)]
-pub enum WordAnswer {
-    Word(Word),
-    Refused(Refusal),
-}
-
 // What a frame's bits say: a message; that more are to come; an unsupported code.
 #[derive(Clone, Copy)]
 pub enum Reading {
     Message(Message),
     Longer,
     Unsupported,
-    Refused(Refusal),
 }
 
 // House code, code and function bit as one number.
@@ -68,14 +60,14 @@ fn bits_of(m: Message) -> Word
 }
 
 // The bits that a message's frame carries. Refused where its house or unit is above 15.
-pub fn word_of(m: Message) -> WordAnswer
+pub fn word_of(m: Message) -> Result<Word, Refusal>
     ensures answer { result ≡ word_answer m }
     ensures report { word_report result ≡ judged (word_causes m) (reports (word_in m ∷ [])) refuses }
 {
     if !valid(m) {
-        return WordAnswer::Refused(Refusal::Message);
+        return Err(Refusal::Message);
     }
-    WordAnswer::Word(bits_of(m))
+    Ok(bits_of(m))
 }
 
 // What nine bits of an address or a function say.
@@ -86,47 +78,41 @@ fn nine_read(bits: u32) -> Reading
     let code = (bits / 2 % 16) as u8;
     if bits % 2 == 0 {
         let unit = line_number(code);
-        return Reading::Message(Message::Address {
-            house: house,
-            unit: unit,
-        });
+        return Reading::Message(Message::Address { house, unit });
     }
     match meaning_at(code) {
-        Meaning::Function(f) => Reading::Message(Message::Function {
-            house: house,
-            function: f,
-        }),
+        Meaning::Function(f) => Reading::Message(Message::Function { house, function: f }),
         Meaning::Extended => Reading::Longer,
         Meaning::Unsupported => Reading::Unsupported,
     }
 }
 
 // What a frame's first nine bits say. Refused where the number has more.
-pub fn read_standard(bits: u32) -> Reading
+pub fn read_standard(bits: u32) -> Result<Reading, Refusal>
     ensures answer { result ≡ standard_answer bits }
-    ensures report { reading_report result ≡ judged (standard_causes bits) (reading_report (standard_of bits)) refuses }
+    ensures report { reading_report result ≡ judged (standard_causes bits) (said (standard_of bits)) refuses }
 {
     if 512 <= bits {
-        return Reading::Refused(Refusal::State);
+        return Err(Refusal::State);
     }
-    nine_read(bits)
+    Ok(nine_read(bits))
 }
 
 // The extended message that 29 bits say. Refused where the number has more, or where its first nine are no head of an extended frame.
-pub fn read_extended(bits: u32) -> Reading
+pub fn read_extended(bits: u32) -> Result<Reading, Refusal>
     ensures answer { result ≡ extended_answer bits }
     ensures report { reading_report result ≡ judged (extended_causes bits) (reports (extended_of bits ∷ [])) refuses }
 {
     if 536870912 <= bits {
-        return Reading::Refused(Refusal::State);
+        return Err(Refusal::State);
     }
     if bits / 1048576 % 32 != 15 {
-        return Reading::Refused(Refusal::State);
+        return Err(Refusal::State);
     }
-    Reading::Message(Message::Extended {
+    Ok(Reading::Message(Message::Extended {
         house: line_number((bits / 33554432 % 16) as u8),
         unit: line_number((bits / 65536 % 16) as u8),
         data: (bits / 256 % 256) as u8,
         command: (bits % 256) as u8,
-    })
+    }))
 }

@@ -4,6 +4,7 @@
 --     run_done                      the answer and the bytes left, where the length is a table's and the house is one of the sixteen
 --     changed_at_most               no more levels change than there are records
 --     step_changed, run_changed     at most one a record stepped, and so at most sixteen an act
+use Rattle.std.specs.Prelude.{Ok}
 use mathlib.Core.Path.{◌≡◌, refl, sym}
 use mathlib.Core.List.{List}
 use Prim.Native.Nat.{ℕ, zero, suc, ◌+◌, ◌*◌, ◌≤◌, ◌<◌}
@@ -14,7 +15,6 @@ use lib.ListN.{length}
 use Rattle.ground.specs.Choice.{pick}
 use Rattle.ground.specs.Records.{step_each}
 use Rattle.ground.specs.Refusals.{judged}
-use Rattle.ground.specs.declared.CountAnswer.TheVariants.{Done}
 use Rattle.ground.proofs.Causes.{lowest_given}
 use Rattle.ground.proofs.Records.{each-length, each_other, one_at_most, differing_put, differing_at_most}
 use Rattle.plan.specs.declared.Act.{Act}
@@ -30,7 +30,7 @@ act_lowest h t = lowest_given (act_causes h t) refl
 
 -- the tests of a caller that has a table and a house are passed
 pub run_done : (a : Act) (h : ℕ) (t : List ℕ) → length t ≡ TABLE_BYTES → h < HOUSES
-    → (act_answer a h t ≡ Done (changed t (run_act a h t))) × (modules_after a h t ≡ run_act a h t)
+    → (act_answer a h t ≡ Ok (changed t (run_act a h t))) × (modules_after a h t ≡ run_act a h t)
 unfolding act_answer modules_after judged
 run_done a h t size house =
     let long = eq-eqb (length t) TABLE_BYTES size in

@@ -16,7 +16,7 @@ ghost use Rattle.module_table.specs.ModuleRuns.{act_answer, modules_after};
 ghost use Rattle.module_table.specs.Units.{units_ok};
 ghost use Rattle.module_table.specs.Reaches.{may_change, Spares};
 
-use ground::{CountAnswer, Refusal, count_of, zeros};
+use ground::{Refusal, choose, count_of, zeros};
 use message::Function;
 use plan::{Act, bit_of};
 use quick::quick_each;
@@ -31,36 +31,38 @@ mod quick;
 // The bytes of a house's records.
 const UNITS_BYTES: usize = UNITS * RECORD_BYTES;
 
+// The bytes of a table as an array, so that their number stands in the type.
+type Table = [u8; TABLE_BYTES];
+
 // Four bytes of a table, from place at + k on.
-fn four_at(t: &[u8], at: usize, k: usize) -> [u8; GROUPS]
-    requires { (length t.now ≡ TABLE_BYTES) × (at + RECORD_BYTES ≤ TABLE_BYTES) × (k ≤ 8) }
+fn four_at(t: &Table, at: usize, k: usize) -> [u8; GROUPS]
+    requires { (at + RECORD_BYTES ≤ TABLE_BYTES) × (k ≤ 8) }
     ensures { result ≡ bytes_at t.now at k GROUPS }
 {
     [t[at + k], t[at + (k + 1)], t[at + (k + 2)], t[at + (k + 3)]]
 }
 
 // Record i of a table.
-fn load(t: &[u8], i: usize) -> Record
-    requires { (length t.now ≡ TABLE_BYTES) × (i < RECORDS) }
+fn load(t: &Table, i: usize) -> Record
+    requires { i < RECORDS }
     ensures { result ≡ record_at t.now i }
 {
     let at = i * RECORD_BYTES;
-    let groups = Groups {
-        mask: t[at + 3],
-        presets: four_at(t, at, 4),
-        references: four_at(t, at, 8),
-    };
     Record {
         kind: t[at],
         level: t[at + 1],
         addressed: t[at + 2],
-        groups: groups,
+        groups: Groups {
+            mask: t[at + 3],
+            presets: four_at(t, at, 4),
+            references: four_at(t, at, 8),
+        },
     }
 }
 
 // Puts four bytes at a place of a table, and says that they are four.
-fn put_four(t: &mut [u8], at: usize, xs: [u8; GROUPS])
-    requires { (length t.old ≡ TABLE_BYTES) × (at + GROUPS ≤ TABLE_BYTES) }
+fn put_four(t: &mut Table, at: usize, xs: [u8; GROUPS])
+    requires { at + GROUPS ≤ TABLE_BYTES }
     ensures { (t.new ≡ sets t.old at xs) × (length xs ≡ GROUPS) }
 {
     t[at] = xs[0];
@@ -70,25 +72,22 @@ fn put_four(t: &mut [u8], at: usize, xs: [u8; GROUPS])
 }
 
 // Puts a record at place i of a table.
-fn store(t: &mut [u8], i: usize, r: Record)
-    requires { (length t.old ≡ TABLE_BYTES) × (i < RECORDS) }
+fn store(t: &mut Table, i: usize, r: Record)
+    requires { i < RECORDS }
     ensures { t.new ≡ put t.old i r }
 {
     let at = i * RECORD_BYTES;
-    let groups = r.groups;
-    let presets = groups.presets;
-    let references = groups.references;
     t[at] = r.kind;
     t[at + 1] = r.level;
     t[at + 2] = r.addressed;
-    t[at + 3] = groups.mask;
-    put_four(t, at + 4, presets);
-    put_four(t, at + 8, references);
+    t[at + 3] = r.groups.mask;
+    put_four(t, at + 4, r.groups.presets);
+    put_four(t, at + 8, r.groups.references);
 }
 
 // The bytes of a house beside its records': in this crate they are read here, and written below, and nowhere else.
-fn house_at(t: &[u8], house: usize) -> House
-    requires { (length t.now ≡ TABLE_BYTES) × (house < HOUSES) }
+fn house_at(t: &Table, house: usize) -> House
+    requires { house < HOUSES }
     ensures { result ≡ house_at t.now house }
 {
     House {
@@ -97,8 +96,8 @@ fn house_at(t: &[u8], house: usize) -> House
     }
 }
 
-fn put_house(t: &mut [u8], house: usize, own: House)
-    requires { (length t.old ≡ TABLE_BYTES) × (house < HOUSES) }
+fn put_house(t: &mut Table, house: usize, own: House)
+    requires { house < HOUSES }
     ensures { t.new ≡ put_house t.old house own }
 {
     t[HEARD_AT + house] = own.heard;
@@ -106,30 +105,27 @@ fn put_house(t: &mut [u8], house: usize, own: House)
 }
 
 // Whether the presets and references of record i keep the rules. The four are tested straight from the bytes and with no early way out.
-fn groups_ok(t: &[u8], i: usize) -> bool
-    requires { (length t.now ≡ TABLE_BYTES) × (i < RECORDS) }
+fn groups_ok(t: &Table, i: usize) -> bool
+    requires { i < RECORDS }
     ensures { result ≡ groups_ok GROUPS (record_at t.now i) }
 {
     let at = i * RECORD_BYTES;
     let mut ok = true;
-    let mut g: usize = 0;
-    while g < GROUPS {
-        ok = ok
-            & group_valid(
-                t[at],
-                bit_of(g as u8, t[at + 3]),
-                t[at + 4 + g],
-                t[at + 8 + g],
-            );
-        g += 1;
+    for g in 0..GROUPS {
+        ok &= group_valid(
+            t[at],
+            bit_of(g as u8, t[at + 3]),
+            t[at + 4 + g],
+            t[at + 8 + g],
+        );
     }
     ok
 }
 
 // Whether record i of a table keeps the rules. An absent module that is in no group has no preset and no reference by the rules of groups, so
 // that these are not looked at again.
-fn record_ok(t: &[u8], i: usize) -> bool
-    requires { (length t.now ≡ TABLE_BYTES) × (i < RECORDS) }
+fn record_ok(t: &Table, i: usize) -> bool
+    requires { i < RECORDS }
     ensures { result ≡ record_ok (record_at t.now i) }
 {
     let at = i * RECORD_BYTES;
@@ -139,8 +135,8 @@ fn record_ok(t: &[u8], i: usize) -> bool
 }
 
 // 1 where the module of record i is above level 0, else 0.
-fn lit_at(t: &[u8], i: usize) -> usize
-    requires { (length t.now ≡ TABLE_BYTES) × (i < RECORDS) }
+fn lit_at(t: &Table, i: usize) -> usize
+    requires { i < RECORDS }
     ensures { (result ≡ lit_of (record_at t.now i)) × (result ≤ 1) }
 {
     let r = load(t, i);
@@ -148,24 +144,22 @@ fn lit_at(t: &[u8], i: usize) -> usize
 }
 
 // Whether each record of a house keeps the rules, by these rules one by one.
-fn judge_each(t: &[u8], house: usize) -> bool
-    requires { (length t.now ≡ TABLE_BYTES) × (house < HOUSES) }
+fn judge_each(t: &Table, house: usize) -> bool
+    requires { house < HOUSES }
     ensures { result ≡ each_ok modules record_ok (house * UNITS) UNITS t.now }
 {
     let first = house * UNITS;
     let mut ok = true;
-    let mut n = 0;
-    while n < UNITS {
-        ok = ok & record_ok(t, first + n);
-        n += 1;
+    for n in 0..UNITS {
+        ok &= record_ok(t, first + n);
     }
     ok
 }
 
 // Whether each record of a house keeps the rules, and whether its byte says how many modules are lit. The records of a house with no module
 // are passed over, and where the quick test finds no fault the exact one is not asked.
-fn units_ok(t: &[u8], house: usize) -> bool
-    requires { (length t.now ≡ TABLE_BYTES) × (house < HOUSES) }
+fn units_ok(t: &Table, house: usize) -> bool
+    requires { house < HOUSES }
     ensures { result ≡ units_ok t.now house }
 {
     let own = house_at(t, house);
@@ -182,38 +176,31 @@ fn units_ok(t: &[u8], house: usize) -> bool
 }
 
 // Whether those of every house do.
-fn all_units_ok(t: &[u8]) -> bool
-    requires { length t.now ≡ TABLE_BYTES }
+fn all_units_ok(t: &Table) -> bool
     ensures { result ≡ all_below HOUSES (units_ok t.now) }
 {
     let mut ok = true;
-    let mut house = 0;
-    while house < HOUSES {
-        ok = ok & units_ok(t, house);
-        house += 1;
+    for house in 0..HOUSES {
+        ok &= units_ok(t, house);
     }
     ok
 }
 
 // Whether a house's "command heard" byte keeps the rules.
-fn heard_ok(t: &[u8], house: usize) -> bool
-    requires { (length t.now ≡ TABLE_BYTES) × (house < HOUSES) }
+fn heard_ok(t: &Table, house: usize) -> bool
+    requires { house < HOUSES }
     ensures { result ≡ heard_ok (house_at t.now house).heard }
 {
-    let own = house_at(t, house);
-    heard_valid(own.heard)
+    heard_valid(house_at(t, house).heard)
 }
 
 // Whether that of each house does.
-fn all_heard_ok(t: &[u8]) -> bool
-    requires { length t.now ≡ TABLE_BYTES }
+fn all_heard_ok(t: &Table) -> bool
     ensures { result ≡ all_below HOUSES (λ h. heard_ok (house_at t.now h).heard) }
 {
     let mut ok = true;
-    let mut h = 0;
-    while h < HOUSES {
-        ok = ok & heard_ok(t, h);
-        h += 1;
+    for h in 0..HOUSES {
+        ok &= heard_ok(t, h);
     }
     ok
 }
@@ -222,14 +209,14 @@ fn all_heard_ok(t: &[u8]) -> bool
 pub fn valid(t: &[u8]) -> bool
     ensures { result ≡ table_ok t.now }
 {
-    if t.len() != TABLE_BYTES {
-        return false;
+    match t.as_array() {
+        Some(whole) => all_units_ok(whole) & all_heard_ok(whole),
+        None => false,
     }
-    all_units_ok(t) & all_heard_ok(t)
 }
 
 // Which records of a house may change: that of one unit, and those whose "addressed" byte is `floor` or more. A unit above 15 is none,
-// a floor of 0 is any record, 1 those that are addressed, and 2 none, since that byte is 0 or 1.
+// a floor of 0 is any record, 1 those that are addressed, and 2 none, since that byte is 0 or 1. Numbers: one comparison a record tells it.
 #[derive(Clone, Copy)]
 struct Reach {
     unit: u8,
@@ -239,17 +226,7 @@ struct Reach {
 fn reaching(unit: u8, floor: u8) -> Reach
     ensures { result ≡ record { unit = unit; floor = floor } }
 {
-    Reach {
-        unit: unit,
-        floor: floor,
-    }
-}
-
-// The floor of an address, by whether the house has heard a command.
-fn address_floor(heard: bool) -> u8
-    ensures { result ≡ pick heard 1 2 }
-{
-    if heard { 1 } else { 2 }
+    Reach { unit, floor }
 }
 
 // Which records a function may change.
@@ -257,18 +234,9 @@ fn reach_by(f: Function) -> Reach
     ensures { (n : ℕ) (r : Record) → may_change result n r ≡ false → obeyed f r ≡ r }
 {
     match f {
-        Function::On => reaching(255, 1),
-        Function::Off => reaching(255, 1),
-        Function::Dim => reaching(255, 1),
-        Function::Bright => reaching(255, 1),
-        Function::AllLightsOn => reaching(255, 0),
-        Function::AllLightsOff => reaching(255, 0),
-        Function::AllUnitsOff => reaching(255, 0),
-        Function::HailRequest => reaching(255, 2),
-        Function::HailAcknowledge => reaching(255, 2),
-        Function::StatusOn => reaching(255, 2),
-        Function::StatusOff => reaching(255, 2),
-        Function::StatusRequest => reaching(255, 2),
+        Function::On | Function::Off | Function::Dim | Function::Bright => reaching(255, 1),
+        Function::AllLightsOn | Function::AllLightsOff | Function::AllUnitsOff => reaching(255, 0),
+        _ => reaching(255, 2),
     }
 }
 
@@ -278,35 +246,23 @@ fn reach_of(act: Act, own: House) -> Reach
 {
     match act {
         Act::Nothing => reaching(255, 2),
-        Act::Address { unit } => reaching(unit, address_floor(own.heard == 1)),
+        // An address reaches those that are addressed too where the house has heard a command, and else no other.
+        Act::Address { unit } => reaching(unit, choose(own.heard == 1, 1, 2)),
         Act::Obey(f) => reach_by(f),
-        Act::Join {
-            unit,
-            group: _,
-            reference: _,
-        } => reaching(unit, 2),
-        Act::Level { unit, level: _ } => reaching(unit, 2),
-        Act::JoinAt {
-            unit,
-            group: _,
-            level: _,
-        } => reaching(unit, 2),
-        Act::UnitsOn => reaching(255, 0),
-        Act::UnitsOff => reaching(255, 0),
-        Act::Leave { unit, groups: _ } => reaching(unit, 2),
-        Act::LeaveHouse { groups: _ } => reaching(255, 0),
-        Act::Group {
-            group: _,
-            reference: _,
-            ask: _,
-        } => reaching(255, 0),
+        Act::Join { unit, .. }
+        | Act::Level { unit, .. }
+        | Act::JoinAt { unit, .. }
+        | Act::Leave { unit, .. } => reaching(unit, 2),
+        Act::UnitsOn | Act::UnitsOff | Act::LeaveHouse { .. } | Act::Group { .. } => reaching(
+            255, 0,
+        ),
     }
 }
 
 // Steps record i of a table, as that of unit n, where a module is there and the act keeps its groups: two of its bytes are stored.
 // Answers 1 where its level changed.
-fn step_level(t: &mut [u8], i: usize, act: Act, own: House, n: u8) -> usize
-    requires { (length t.old ≡ TABLE_BYTES) × (i < RECORDS) × (present (record_at t.old i) ≡ true) × (keeps_groups act ≡ true) }
+fn step_level(t: &mut Table, i: usize, act: Act, own: House, n: u8) -> usize
+    requires { (i < RECORDS) × (present (record_at t.old i) ≡ true) × (keeps_groups act ≡ true) }
     ensures { Stepped modules level_of (step_record act own n) i t.old t.new result }
 {
     let before = load(t, i);
@@ -319,28 +275,19 @@ fn step_level(t: &mut [u8], i: usize, act: Act, own: House, n: u8) -> usize
 }
 
 // The same where the act may change its groups. No level changes, whatever the house's own bytes.
-fn step_groups(t: &mut [u8], i: usize, act: Act, n: u8) -> usize
-    requires { (length t.old ≡ TABLE_BYTES) × (i < RECORDS) × (present (record_at t.old i) ≡ true) × (keeps_groups act ≡ false) }
+fn step_groups(t: &mut Table, i: usize, act: Act, n: u8) -> usize
+    requires { (i < RECORDS) × (present (record_at t.old i) ≡ true) × (keeps_groups act ≡ false) }
     ensures { (own : House) → Stepped modules level_of (step_record act own n) i t.old t.new result }
 {
     let before = load(t, i);
     let groups = groups_after(act, n, before);
-    store(
-        t,
-        i,
-        Record {
-            kind: before.kind,
-            level: before.level,
-            addressed: before.addressed,
-            groups: groups,
-        },
-    );
+    store(t, i, Record { groups, ..before });
     0
 }
 
 // Steps record i of a table, as that of unit n, and answers 1 where its level changed. An absent unit stays as it is.
-fn step_record(t: &mut [u8], i: usize, act: Act, own: House, n: u8) -> usize
-    requires { (length t.old ≡ TABLE_BYTES) × (i < RECORDS) }
+fn step_record(t: &mut Table, i: usize, act: Act, own: House, n: u8) -> usize
+    requires { i < RECORDS }
     ensures { Stepped modules level_of (step_record act own n) i t.old t.new result }
 {
     if t[i * RECORD_BYTES] == 0 {
@@ -353,8 +300,8 @@ fn step_record(t: &mut [u8], i: usize, act: Act, own: House, n: u8) -> usize
 }
 
 // The same, and a record that the act does not reach is passed over by a look at one byte.
-fn step_at(t: &mut [u8], i: usize, act: Act, own: House, n: u8, o: Reach) -> usize
-    requires { (length t.old ≡ TABLE_BYTES) × (i < RECORDS) × Spares act own o }
+fn step_at(t: &mut Table, i: usize, act: Act, own: House, n: u8, o: Reach) -> usize
+    requires { (i < RECORDS) × Spares act own o }
     ensures { Stepped modules level_of (step_record act own n) i t.old t.new result }
 {
     if (o.floor <= t[i * RECORD_BYTES + 2]) | (n == o.unit) {
@@ -372,8 +319,8 @@ struct HouseStepped {
 }
 
 // Steps the sixteen records of a house.
-fn step_house(t: &mut [u8], house: usize, act: Act, own: House) -> HouseStepped
-    requires { (length t.old ≡ TABLE_BYTES) × (house < HOUSES) }
+fn step_house(t: &mut Table, house: usize, act: Act, own: House) -> HouseStepped
+    requires { house < HOUSES }
     ensures { (t.new ≡ step_each modules (step_record act own) (house * UNITS) UNITS t.old)
         × (result.count ≡ changed t.old t.new) × (result.lit ≡ lit_in t.new house) × (result.lit ≤ UNITS) }
 {
@@ -381,21 +328,16 @@ fn step_house(t: &mut [u8], house: usize, act: Act, own: House) -> HouseStepped
     let o = reach_of(act, own);
     let mut count: usize = 0;
     let mut lit: usize = 0;
-    let mut n: usize = 0;
-    while n < UNITS {
-        count = count + step_at(t, first + n, act, own, n as u8, o);
-        lit = lit + lit_at(t, first + n);
-        n += 1;
+    for n in 0..UNITS {
+        count += step_at(t, first + n, act, own, n as u8, o);
+        lit += lit_at(t, first + n);
     }
-    HouseStepped {
-        count: count,
-        lit: lit,
-    }
+    HouseStepped { count, lit }
 }
 
 // Runs an act for a house: its sixteen records, and then its own bytes. Answers how many levels changed.
-fn run_act(t: &mut [u8], house: usize, act: Act) -> usize
-    requires { (length t.old ≡ TABLE_BYTES) × (house < HOUSES) }
+fn run_act(t: &mut Table, house: usize, act: Act) -> usize
+    requires { house < HOUSES }
     ensures { (t.new ≡ run_act act house t.old) × (result ≡ changed t.old t.new) }
 {
     let own = house_at(t, house);
@@ -406,15 +348,15 @@ fn run_act(t: &mut [u8], house: usize, act: Act) -> usize
 
 // Runs an act for a house on the bytes of a module table, and answers how many levels changed. Refused where their length is not a table's,
 // and where the house is above 15: the bytes are then left as they are.
-pub fn run(t: &mut [u8], house: u8, act: Act) -> CountAnswer
+pub fn run(t: &mut [u8], house: u8, act: Act) -> Result<usize, Refusal>
     ensures answer { result ≡ act_answer act house t.old }
     ensures table { t.new ≡ modules_after act house t.old }
 {
-    if t.len() != TABLE_BYTES {
-        return CountAnswer::Refused(Refusal::Table);
-    }
+    let Some(whole) = t.as_mut_array() else {
+        return Err(Refusal::Table);
+    };
     if 15 < house {
-        return CountAnswer::Refused(Refusal::Message);
+        return Err(Refusal::Message);
     }
-    CountAnswer::Done(run_act(t, house as usize, act))
+    Ok(run_act(whole, house as usize, act))
 }

@@ -1,13 +1,14 @@
 // A quick test of the records of a house: twelve bytes are three numbers, and a rule is tested of four bytes at once. With no branch, and
 // with numbers of 32 bits only, the records are tested side by side. A yes is proved to be right; after a no the rules are asked one by one.
 ghost use Rattle.std.specs.Prelude.{◌≡◌, true, ◌+◌, ◌*◌, ◌≤◌, ◌<◌, length, get_or};
-ghost use Rattle.ground.specs.Choice.{pick};
 ghost use Rattle.ground.specs.Records.{each_ok};
 ghost use Rattle.record.specs.declared.Record.{Record};
 ghost use Rattle.record.specs.Layout.{HOUSES, UNITS, TABLE_BYTES, modules};
 ghost use Rattle.record.specs.ModuleTable.{record_ok, lit_in};
 ghost use Rattle.module_table.specs.Quick.{WordOf, InWords};
 
+use crate::Table;
+use ground::choose;
 use record::{RECORD_BYTES, UNITS};
 
 // Four bytes of 1.
@@ -22,19 +23,12 @@ fn word_of(s: &[u8]) -> u32
 }
 
 // The number of the four bytes from a place on.
-fn word_at(t: &[u8], at: usize) -> u32
-    requires { (length t.now ≡ TABLE_BYTES) × (at + 4 ≤ TABLE_BYTES) }
+fn word_at(t: &Table, at: usize) -> u32
+    requires { at + 4 ≤ TABLE_BYTES }
     ensures { WordOf result (get_or t.now at 0) (get_or t.now (at + 1) 0) (get_or t.now (at + 2) 0)
         (get_or t.now (at + 3) 0) }
 {
     word_of(&t[at..at + 4])
-}
-
-// The first number where the test holds, else the second.
-fn choose(b: bool, x: u32, y: u32) -> u32
-    ensures { result ≡ pick b x y }
-{
-    if b { x } else { y }
 }
 
 // Bits that are set where a record, given as three numbers, breaks a rule; 0 only for one that keeps them. In turn: bits that no field may
@@ -66,24 +60,19 @@ pub(crate) struct Quick {
 }
 
 // Tests each record of a house.
-pub(crate) fn quick_each(t: &[u8], house: usize) -> Quick
-    requires { (length t.now ≡ TABLE_BYTES) × (house < HOUSES) }
+pub(crate) fn quick_each(t: &Table, house: usize) -> Quick
+    requires { house < HOUSES }
     ensures { (result.ok ≡ true → each_ok modules record_ok (house * UNITS) UNITS t.now ≡ true) × (result.lit ≡ lit_in t.now house)
         × (result.lit ≤ UNITS) }
 {
     let first = house * UNITS;
     let mut bad: u32 = 0;
     let mut lit: u32 = 0;
-    let mut n = 0;
-    while n < UNITS {
+    for n in 0..UNITS {
         let at = (first + n) * RECORD_BYTES;
         let fields = word_at(t, at);
-        bad = bad | faults(fields, word_at(t, at + 4), word_at(t, at + 8));
-        lit = lit + choose(fields / 256 % 256 == 0, 0, 1);
-        n += 1;
+        bad |= faults(fields, word_at(t, at + 4), word_at(t, at + 8));
+        lit += choose(fields / 256 % 256 == 0, 0, 1);
     }
-    Quick {
-        ok: bad == 0,
-        lit: lit,
-    }
+    Quick { ok: bad == 0, lit }
 }

@@ -15,14 +15,12 @@ const SIZE: usize = 65536;
 // The last place of the buffer at which a line may begin.
 const LAST: usize = 65024;
 
-// The greatest number that reads are counted to.
-const GREATEST: u64 = 18446744073709551615;
-
 // Where the program stands: the line that is being read, how many bytes are gathered, and whether every write has been done.
 #[derive(Clone, Copy)]
 struct Progress {
     line: Line,
     at: usize,
+    // No Result: each byte's step would have to hand it on, and the piece is taken to its end all the same.
     written: bool,
 }
 
@@ -41,16 +39,10 @@ fn write(rt: &HostRuntime, out: &[u8], n: usize) -> bool {
 fn flush(rt: &HostRuntime, p: Progress, out: &[u8]) -> Progress
     ensures { result.at ≡ 0 }
 {
-    let line = p.line;
-    let done = if p.written {
-        write(rt, out, p.at)
-    } else {
-        false
-    };
     Progress {
-        line: line,
         at: 0,
-        written: done,
+        written: p.written && write(rt, out, p.at),
+        ..p
     }
 }
 
@@ -59,12 +51,9 @@ fn put(out: &mut [u8; SIZE], at: usize, text: &[u8; ROOM], n: usize) -> usize
     requires { (at ≤ 65024) × (n ≤ 512) }
     ensures { result ≡ at + n }
 {
-    let mut i = 0;
-    while i < n {
-        out[at + i] = text[i];
-        i += 1;
-    }
-    at + i
+    let end = at + n;
+    out[at..end].copy_from_slice(&text[..n]);
+    end
 }
 
 // Writes a buffer that is nearly full.
@@ -80,14 +69,12 @@ fn make_room(rt: &HostRuntime, p: Progress, out: &[u8]) -> Progress
 // Prints a line that is over, and begins the next.
 fn end_line(rt: &HostRuntime, p: Progress, kept: &[u8; KEPT], out: &mut [u8; SIZE]) -> Progress {
     let mut text = [0u8; ROOM];
-    let line = p.line;
-    let n = put_line(line, kept, &mut text);
+    let n = put_line(p.line, kept, &mut text);
     let q = make_room(rt, p, out);
-    let at = put(out, q.at, &text, n);
     Progress {
         line: begin(),
-        at: at,
-        written: q.written,
+        at: put(out, q.at, &text, n),
+        ..q
     }
 }
 
@@ -102,12 +89,9 @@ fn take_byte(
     if b == 10 {
         return end_line(rt, p, kept, out);
     }
-    let line = p.line;
-    let next = step(line, b, kept);
     Progress {
-        line: next,
-        at: p.at,
-        written: p.written,
+        line: step(p.line, b, kept),
+        ..p
     }
 }
 
@@ -120,75 +104,42 @@ fn take_piece(
     out: &mut [u8; SIZE],
 ) -> Progress {
     let mut q = p;
-    let mut i = 0;
-    while i < input.len() {
-        q = take_byte(rt, q, input[i], kept, out);
-        i += 1;
+    for &b in input {
+        q = take_byte(rt, q, b, kept, out);
     }
     q
 }
 
 // The last line, which counts without a line feed too, if it has any character.
 fn end_input(rt: &HostRuntime, p: Progress, kept: &[u8; KEPT], out: &mut [u8; SIZE]) -> Progress {
-    let line = p.line;
-    if line.place == 0 {
+    if p.line.place == 0 {
         return p;
     }
     end_line(rt, p, kept, out)
 }
 
-// What a read gave.
-#[derive(Clone, Copy)]
-enum Got {
-    Bytes(usize),
-    Ended,
-    Failed,
-}
-
-// Reads a piece. Where that fails, standard error says why.
-fn read(rt: &HostRuntime, input: &mut [u8]) -> Got {
-    match rt.stdin().read(input) {
-        Ok(0) => Got::Ended,
-        Ok(n) => Got::Bytes(n),
-        Err(why) => {
-            let _ = eprintln!(rt; "packet: cannot read: {why}");
-            Got::Failed
-        }
-    }
-}
-
-// Whether there is more to read, and where the program stands.
-#[derive(Clone, Copy)]
-struct Turn {
-    progress: Progress,
-    more: bool,
-}
-
-// Reads a piece and prints its lines.
+// Reads a piece and prints its lines. Answers where the program stands if it goes on: not after the input's end, nor after a read or a write
+// that failed, of which standard error says why.
 fn take_turn(
     rt: &HostRuntime,
     p: Progress,
     input: &mut [u8; SIZE],
     kept: &mut [u8; KEPT],
     out: &mut [u8; SIZE],
-) -> Turn {
-    let got = read(rt, input);
-    match got {
-        Got::Bytes(n) => {
-            let q = flush(rt, take_piece(rt, p, front(input, n), kept, out), out);
-            Turn {
-                progress: q,
-                more: q.written,
-            }
+) -> Option<Progress> {
+    match rt.stdin().read(input) {
+        Ok(0) => {
+            flush(rt, end_input(rt, p, kept, out), out);
+            None
         }
-        Got::Ended => Turn {
-            progress: flush(rt, end_input(rt, p, kept, out), out),
-            more: false,
-        },
-        Got::Failed => Turn {
-            progress: p,
-            more: false,
-        },
+        Ok(n) => {
+            let q = flush(rt, take_piece(rt, p, front(input, n), kept, out), out);
+            if q.written { Some(q) } else { None }
+        }
+        Err(why) => {
+            let _ = eprintln!(rt; "packet: cannot read: {why}");
+            None
+        }
     }
 }
 
@@ -203,14 +154,10 @@ fn main(rt: HostRuntime) {
         at: 0,
         written: true,
     };
-    let mut reads: u64 = 0;
-    while reads < GREATEST {
-        let turn = take_turn(&rt, p, &mut input, &mut kept, &mut out);
-        if !turn.more {
-            return;
+    for _ in 0..u64::MAX {
+        match take_turn(&rt, p, &mut input, &mut kept, &mut out) {
+            Some(q) => p = q,
+            None => return,
         }
-        let next = turn.progress;
-        p = next;
-        reads += 1;
     }
 }

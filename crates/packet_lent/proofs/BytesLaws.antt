@@ -6,6 +6,7 @@
 --     packet_short, packet_put         a packet's parts put, or no room for them
 --     packet_carried, packet_refused   a packet read, or refused
 --     carried_order         CarriedOrder
+use Rattle.std.specs.Prelude.{Result, Ok, Err}
 use mathlib.Core.Path.{◌≡◌, refl, sym, ap, ap₂, ◌∙◌}
 use mathlib.Core.List.{List, [], ◌∷◌, ◌++◌, flat_map, map}
 use Prim.Native.Nat.{ℕ, zero, suc, ◌+◌, ◌-◌, ◌*◌, ◌≤◌, ◌<◌}
@@ -16,8 +17,6 @@ use lib.ListN.{length, get_or}
 use lib.Seq.{sets}
 use Rattle.ground.specs.Records.{front}
 use Rattle.ground.specs.Refusals.{judged, count_report, reports, refuses}
-use Rattle.ground.specs.declared.CountAnswer.{CountAnswer}
-use Rattle.ground.specs.declared.CountAnswer.TheVariants.{Done, Refused}
 use Rattle.ground.specs.declared.Refusal.{Refusal}
 use Rattle.ground.specs.declared.Refusal.TheVariants as refusal
 use Rattle.ground.proofs.Causes.{judged_map, judged_append, judged_past, refused_told}
@@ -26,8 +25,6 @@ use Rattle.message.specs.declared.Message.{Message}
 use Rattle.message.specs.declared.Message.TheVariants.{Address, Function as Command, Extended}
 use Rattle.wire.specs.Messages.{message_bytes}
 use Rattle.lynx_net.specs.declared.Packet.{Packet}
-use Rattle.lynx_net.specs.declared.PacketRead.{PacketRead}
-use Rattle.lynx_net.specs.declared.PacketRead.TheVariants as read
 use Rattle.lynx_net.specs.Lists.{ending_list, unit_count, addresses_of, listed}
 use Rattle.lynx_net.specs.declared.payload.Messages.{Messages}
 use Rattle.lynx_net.specs.Payloads.{numbers_from}
@@ -88,38 +85,38 @@ module _ (p : Packet) (out : List ℕ) {n : ℕ} (count : n ≡ length (listed p
   packet_length = omega (arith, bytes_length (listed p.messages))
 
   -- what `put_packet` owes
-  abbrev Owed : CountAnswer → List ℕ → Type 0
+  abbrev Owed : Result ℕ Refusal → List ℕ → Type 0
   Owed r after =
-      (r ≡ judged (front_causes (packet_bytes p) (length out)) (Done (length (listed p.messages))) Refused)
+      (r ≡ judged (front_causes (packet_bytes p) (length out)) (Ok (length (listed p.messages))) Err)
       × (after ≡ judged (front_causes (packet_bytes p) (length out)) (front (packet_bytes p) out) (λ why. out))
 
-  pub packet_short : length out < 3 + 5 * n → Owed (Refused refusal.Short) out
+  pub packet_short : length out < 3 + 5 * n → Owed (Err refusal.Short) out
   unfolding judged
   packet_short h = rw (lt-leb (length (packet_bytes p)) (length out) (omega (arith, packet_length))) (refl, refl)
 
-  pub packet_put : {after : List ℕ} → 3 + 5 * n ≤ length out → after ≡ sets out 0 (packet_bytes p) → Owed (Done n) after
+  pub packet_put : {after : List ℕ} → 3 + 5 * n ≤ length out → after ≡ sets out 0 (packet_bytes p) → Owed (Ok n) after
   unfolding judged
   packet_put h put =
       let long : length (packet_bytes p) ≤ length out = omega (arith, packet_length) in
-      rw (le-leb (length (packet_bytes p)) (length out) long) (ap Done count, put ∙ sets-front (packet_bytes p) out long)
+      rw (le-leb (length (packet_bytes p)) (length out) long) (ap Ok count, put ∙ sets-front (packet_bytes p) out long)
 
 -- ---- a packet read
 
 module _ (packet out : List ℕ) where
   -- what `read` owes
-  abbrev Right : CountAnswer → List ℕ → Type 0
+  abbrev Right : Result ℕ Refusal → List ℕ → Type 0
   Right r after =
       (r ≡ carried_answer packet (length out))
       × ((count_report r ≡ judged (carried_causes packet (length out)) (reports (length (carried_by packet) ∷ [])) refuses)
       × (after ≡ carried_after packet out))
 
   -- by the answer, the report
-  right_by : {r : CountAnswer} {after : List ℕ} → r ≡ carried_answer packet (length out) → after ≡ carried_after packet out → Right r after
+  right_by : {r : Result ℕ Refusal} {after : List ℕ} → r ≡ carried_answer packet (length out) → after ≡ carried_after packet out → Right r after
   unfolding carried_answer
-  right_by answer left = (answer, (ap count_report answer ∙ judged_map count_report (Done (length (carried_by packet))) Refused (carried_causes packet (length out)), left))
+  right_by answer left = (answer, (ap count_report answer ∙ judged_map count_report (Ok (length (carried_by packet))) Err (carried_causes packet (length out)), left))
 
-  pub packet_carried : (p : Packet) {q : PacketRead} {r : CountAnswer} {after : List ℕ} → q ≡ read_answer packet → q ≡ read.Packet p
-      → r ≡ judged (front_causes (packet_bytes p) (length out)) (Done (length (listed p.messages))) Refused
+  pub packet_carried : (p : Packet) {q : Result Packet Refusal} {r : Result ℕ Refusal} {after : List ℕ} → q ≡ read_answer packet → q ≡ Ok p
+      → r ≡ judged (front_causes (packet_bytes p) (length out)) (Ok (length (listed p.messages))) Err
       → after ≡ judged (front_causes (packet_bytes p) (length out)) (front (packet_bytes p) out) (λ why. out)
       → Right r after
   unfolding carried_answer carried_after
@@ -129,15 +126,15 @@ module _ (packet out : List ℕ) where
       ap (λ (x : Packet). part_bytes x.node x.sequence x.length (listed p.messages)) told.1
       ∙ ap (part_bytes (get_or packet 1 0) (get_or packet 2 0) (get_or packet 3 0)) told.2 in
       let short = front_causes (carried_bytes packet) (length out) in
-      let answered = did ∙ ap₂ (λ (l : List ℕ) (ms : List Message). judged (front_causes l (length out)) (Done (length ms)) Refused) bytes told.2 in
+      let answered = did ∙ ap₂ (λ (l : List ℕ) (ms : List Message). judged (front_causes l (length out)) (Ok (length ms)) Err) bytes told.2 in
       let put = left ∙ ap (λ (l : List ℕ). judged (front_causes l (length out)) (front l out) (λ why. out)) bytes in
-      right_by (answered ∙ sym (judged_past (Done (length (carried_by packet))) Refused (read_causes packet) short told.0))
+      right_by (answered ∙ sym (judged_past (Ok (length (carried_by packet))) Err (read_causes packet) short told.0))
       (put ∙ sym (judged_past (front (carried_bytes packet) out) (λ why. out) (read_causes packet) short told.0))
 
-  pub packet_refused : (why : Refusal) {q : PacketRead}
-      → read_report packet q ≡ judged (read_causes packet) (reports (parts_of packet ∷ [])) refuses → q ≡ read.Refused why → Right (Refused why) out
+  pub packet_refused : (why : Refusal) {q : Result Packet Refusal} {r : Result ℕ Refusal}
+      → read_report packet q ≡ judged (read_causes packet) (reports (parts_of packet ∷ [])) refuses → q ≡ Err why → r ≡ Err why → Right r out
   unfolding carried_answer carried_after
-  packet_refused why {q} reported is = right_by (first (Done (length (carried_by packet))) Refused) (first (front (carried_bytes packet) out) (λ w. out))
+  packet_refused why {q} reported is passed = right_by (passed ∙ first (Ok (length (carried_by packet))) Err) (first (front (carried_bytes packet) out) (λ w. out))
     where
       first : {A : Type 0} (done : A) (refused : Refusal → A) → refused why ≡ judged (carried_causes packet (length out)) done refused
       first done refused =

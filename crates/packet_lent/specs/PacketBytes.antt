@@ -1,10 +1,9 @@
 -- What a packet carries, in lent bytes: node, sequence, the payload's length, and five bytes for each message (wire's Messages).
-use Rattle.std.specs.Prelude.{ℕ, ◌≡◌, length, get_or}
+use Rattle.std.specs.Prelude.{ℕ, ◌≡◌, length, get_or, Result, Ok, Err}
 use mathlib.Core.List.{List, [], ◌∷◌, ◌++◌, flat_map, map}
 use Rattle.ground.specs.Records.{front}
 use Rattle.ground.specs.Refusals.{Cause, judged, cause_number}
-use Rattle.ground.specs.declared.CountAnswer.{CountAnswer}
-use Rattle.ground.specs.declared.CountAnswer.TheVariants.{Done, Refused}
+use Rattle.ground.specs.declared.Refusal.{Refusal}
 use Rattle.message.specs.declared.Message.{Message}
 use Rattle.wire.specs.Messages.{message_bytes}
 use Rattle.lynx_net.specs.declared.Packet.{Packet}
@@ -37,8 +36,8 @@ abbrev pub carried_causes : List ℕ → ℕ → List Cause
 carried_causes packet room = read_causes packet ++ front_causes (carried_bytes packet) room
 
 -- the count is that of the messages
-unfoldable pub carried_answer : List ℕ → ℕ → CountAnswer
-carried_answer packet room = judged (carried_causes packet room) (Done (length (carried_by packet))) Refused
+unfoldable pub carried_answer : List ℕ → ℕ → Result ℕ Refusal
+carried_answer packet room = judged (carried_causes packet room) (Ok (length (carried_by packet))) Err
 
 -- "a lent buffer beyond what is written stays"
 unfoldable pub carried_after : List ℕ → List ℕ → List ℕ

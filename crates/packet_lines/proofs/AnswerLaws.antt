@@ -3,6 +3,7 @@
 --     fields-more      one message more
 --     answer_few       no packet has more than seventeen messages
 --     example_printed  ExamplePrinted
+use Rattle.std.specs.Prelude.{Result, Ok, Err}
 use mathlib.Core.Path.{◌≡◌, refl, sym, ap, subst, ◌∙◌}
 use mathlib.Core.List.{List, [], ◌∷◌, ◌++◌, append-nil, append_assoc}
 use Prim.Native.Nat.{ℕ, zero, suc, ◌+◌, ◌≤◌}
@@ -10,14 +11,13 @@ use native.Mathlib.Omega.{arith}
 use lib.ListN.{length, take}
 use Rattle.ground.specs.Records.{all_below, sum_below}
 use Rattle.ground.specs.Refusals.{judged}
+use Rattle.ground.specs.declared.Refusal.{Refusal}
 use Rattle.ground.specs.Text.{bytes_of, bytes_from}
 use Rattle.ground.proofs.Causes.{judged_holds}
 use Rattle.message.specs.Codes.{name_at, function_names}
 use Rattle.message.specs.declared.Message.{Message}
 use Rattle.text.specs.Texts.{digits_up_to, message_text}
 use Rattle.lynx_net.specs.declared.Packet.{Packet}
-use Rattle.lynx_net.specs.declared.PacketRead.{PacketRead}
-use Rattle.lynx_net.specs.declared.PacketRead.TheVariants as read
 use Rattle.lynx_net.specs.declared.payload.Form.{Form}
 use Rattle.lynx_net.specs.declared.payload.Form.TheVariants.{Addresses, Units, ExtendedCode, EveryHouse, Unknown}
 use Rattle.lynx_net.specs.declared.payload.Messages.{Messages}
@@ -52,16 +52,16 @@ held_few (EveryHouse f) p = omega (arith, listed_count (held_by (EveryHouse f) p
 held_few Unknown p = omega (arith, listed_count (held_by Unknown p))
 
 -- of an answer: the messages of the packet are few
-abbrev Few : PacketRead → Type 0
-Few (read.Packet p) = length (listed p.messages) ≤ 17
-Few (read.Refused why) = Unit {0}
+abbrev Few : Result Packet Refusal → Type 0
+Few (Ok p) = length (listed p.messages) ≤ 17
+Few (Err why) = Unit {0}
 
 few : (packet : List ℕ) → Few (read_answer packet)
 unfolding read_answer
 few packet =
-    judged_holds Few (read.Packet (packet_in packet)) read.Refused (read_causes packet) (λ z. held_few (form_in (payload_in packet)) (payload_in packet)) (λ why. tt)
+    judged_holds Few (Ok (packet_in packet)) Err (read_causes packet) (λ z. held_few (form_in (payload_in packet)) (payload_in packet)) (λ why. tt)
 
-pub answer_few : (packet : List ℕ) (p : Packet) → read_answer packet ≡ read.Packet p → length (listed p.messages) ≤ 17
+pub answer_few : (packet : List ℕ) (p : Packet) → read_answer packet ≡ Ok p → length (listed p.messages) ≤ 17
 answer_few packet p e = subst Few e (few packet)
 
 -- ---- 02's two packets

@@ -12,8 +12,8 @@ ghost use Rattle.packet_lines.specs.Lines.{line_after, kept_after, bad_place};
 ghost use Rattle.packet_lines.specs.Answers.{field, field_at, fields_of, packet_text, answer_text, line_text};
 
 use ground::{Refusal, refusal_number};
-use lynx_net::payload::{MessageAt, Messages, message_at, message_count};
-use lynx_net::{Packet, PacketRead};
+use lynx_net::Packet;
+use lynx_net::payload::{Messages, message_at, message_count};
 use message::Message;
 use text::{Text, decimal, front, hex};
 
@@ -31,11 +31,11 @@ pub const GREATEST: u64 = 18446744073709551615;
 pub struct Line {
     // How many bytes are kept.
     pub count: usize,
-    // The first digit of a byte whose second is awaited; 16 for none.
+    // The first digit of a byte whose second is awaited; 16 for none. No Option: the definitions line_start and line_after speak of 16.
     pub high: u8,
     // How many characters have come.
     pub place: u64,
-    // The place of the first character that does not fit; 0 for none.
+    // The place of the first character that does not fit; 0 for none. No Option: line_start and line_after speak of 0.
     pub bad: u64,
 }
 
@@ -82,25 +82,25 @@ fn first(line: Line, b: u8) -> Line
     let digit = digit_of(b);
     if digit < 16 {
         return Line {
-            count: line.count,
             high: digit,
-            place: place,
+            place,
             bad: 0,
+            ..line
         };
     }
     if (b == 32) | (b == 9) {
         return Line {
-            count: line.count,
             high: 16,
-            place: place,
+            place,
             bad: 0,
+            ..line
         };
     }
     Line {
-        count: line.count,
         high: 16,
-        place: place,
+        place,
         bad: place,
+        ..line
     }
 }
 
@@ -127,17 +127,17 @@ fn second(line: Line, b: u8, kept: &mut [u8; KEPT]) -> Line
     if digit < 16 {
         let count = keep(line.count, line.high * 16 + digit, kept);
         return Line {
-            count: count,
+            count,
             high: 16,
-            place: place,
+            place,
             bad: 0,
         };
     }
     Line {
-        count: line.count,
         high: 16,
-        place: place,
+        place,
         bad: place,
+        ..line
     }
 }
 
@@ -151,10 +151,8 @@ pub fn step(line: Line, b: u8, kept: &mut [u8; KEPT]) -> Line
     }
     if line.bad != 0 {
         return Line {
-            count: line.count,
-            high: line.high,
             place: place_after(line.place),
-            bad: line.bad,
+            ..line
         };
     }
     if line.high < 16 {
@@ -176,16 +174,15 @@ fn bad_place(line: Line) -> u64
     0
 }
 
+// Bytes put at a place, and the place after them. trace_lines has the same for its own buffer: a routine that both call would be open, and have to test again
+// whether there is room.
 fn put_bytes(out: &mut [u8; ROOM], at: usize, bytes: &[u8]) -> usize
     requires { at + length bytes.now ≤ 512 }
     ensures { Put out.old at bytes.now out.new result }
 {
-    let mut i = 0;
-    while i < bytes.len() {
-        out[at + i] = bytes[i];
-        i += 1;
-    }
-    at + i
+    let end = at + bytes.len();
+    out[at..end].copy_from_slice(bytes);
+    end
 }
 
 // A text as far as its length.
@@ -193,8 +190,7 @@ fn put_text(out: &mut [u8; ROOM], at: usize, text: Text) -> usize
     requires { at + length (take text.length text.bytes) ≤ 512 }
     ensures { Put out.old at (take text.length text.bytes) out.new result }
 {
-    let bytes = text.bytes;
-    put_bytes(out, at, front(&bytes, text.length))
+    put_bytes(out, at, front(&text.bytes, text.length))
 }
 
 fn put_number(out: &mut [u8; ROOM], number: u64) -> usize
@@ -226,8 +222,8 @@ fn put_nth(out: &mut [u8; ROOM], at: usize, ms: Messages, i: usize) -> usize
     ensures upper_bound { result ≤ at + 28 }
 {
     match message_at(ms, i) {
-        MessageAt::Message(m) => put_message(out, at, m),
-        MessageAt::Beyond => at,
+        Some(m) => put_message(out, at, m),
+        None => at,
     }
 }
 
@@ -237,12 +233,9 @@ fn put_messages(out: &mut [u8; ROOM], from: usize, ms: Messages) -> usize
     ensures put { Put out.old from (fields_of (listed ms)) out.new result }
     ensures upper_bound { result ≤ 481 }
 {
-    let n = message_count(ms);
     let mut at = from;
-    let mut i = 0;
-    while i < n {
+    for i in 0..message_count(ms) {
         at = put_nth(out, at, ms, i);
-        i += 1;
     }
     at
 }
@@ -253,11 +246,10 @@ fn put_packet(out: &mut [u8; ROOM], p: Packet) -> usize
     ensures put { Put out.old 0 (packet_text p) out.new result }
     ensures upper_bound { result ≤ 481 }
 {
-    let ms = p.messages;
     let a = put_hex(out, 0, p.node);
     let b = put_bytes(out, a, b"\t");
     let c = put_hex(out, b, p.sequence);
-    put_messages(out, c, ms)
+    put_messages(out, c, p.messages)
 }
 
 fn put_refusal(out: &mut [u8; ROOM], why: Refusal) -> usize
@@ -272,8 +264,8 @@ pub fn put_answer(packet: &[u8], out: &mut [u8; ROOM]) -> usize
     ensures room { result ≤ 481 }
 {
     match lynx_net::read(packet) {
-        PacketRead::Packet(p) => put_packet(out, p),
-        PacketRead::Refused(why) => put_refusal(out, why),
+        Ok(p) => put_packet(out, p),
+        Err(why) => put_refusal(out, why),
     }
 }
 

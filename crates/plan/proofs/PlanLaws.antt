@@ -8,6 +8,7 @@
 --     answer_refused   an answer that does not, for a valid message: it is not carried, or it is and its opening does not fit
 --     carried_runs, only_type_zero, which_carried, which_openings, plan_lowest      CarriedRuns, OnlyTypeZero, WhichCarried, WhichOpenings, PlanLowest
 --     group_forms_carried, which_reference                                          GroupFormsCarried, WhichReference
+use Rattle.std.specs.Prelude.{Result, Ok, Err}
 use Prim.Native.Nat.{ℕ, ◌/◌, ◌%◌, ◌^◌, ◌≤◌, ◌<◌}
 use mathlib.Core.Path.{◌≡◌, refl, sym, ap, ◌∙◌}
 use mathlib.Core.Bool.{Bool, true, false, not, ◌&&◌, ◌||◌, false≢true}
@@ -34,7 +35,7 @@ use Rattle.plan.specs.declared.Act.{Act}
 use Rattle.plan.specs.declared.Act.TheVariants.{Nothing}
 use Rattle.plan.specs.declared.Motion.{Motion}
 use Rattle.plan.specs.declared.Plan.{Plan}
-use Rattle.plan.specs.declared.Plan.TheVariants.{Run, Move, Refused}
+use Rattle.plan.specs.declared.Plan.TheVariants.{Run, Move}
 use Rattle.plan.specs.Motions.{opening_in, motion_plan}
 use Rattle.plan.specs.Plans.{bit, not_carried, extended_plan, type_zero, for_shutters, plan_of, runs, carried, fits, plan_causes, plan_answer}
 use Rattle.plan.specs.Statements.{CarriedRuns, OnlyTypeZero, WhichCarried, GroupFormsCarried, WhichReference, carries_opening, WhichOpenings, PlanLowest}
@@ -46,13 +47,13 @@ no_bit k x h l =
 
 -- ---- an act, a motion or NOT CARRIED
 
-module _ (P : Plan → Type 0) (none : P not_carried) where
+module _ (P : Result Plan Refusal → Type 0) (none : P not_carried) where
   -- what holds of both plans holds of the chosen one
-  either : (b : Bool) {p q : Plan} → P p → P q → P (pick b p q)
+  either : (b : Bool) {p q : Result Plan Refusal} → P p → P q → P (pick b p q)
   either b {p} {q} = pick_both P b p q
 
   -- a plan for modules
-  extended_each : ((a : Act) → P (Run a)) → (u d c : ℕ) → P (extended_plan u d c)
+  extended_each : ((a : Act) → P (Ok (Run a))) → (u d c : ℕ) → P (extended_plan u d c)
   unfolding extended_plan
   extended_each act u d c =
       either (eqb c 0x30) (act _)
@@ -67,7 +68,7 @@ module _ (P : Plan → Type 0) (none : P not_carried) where
       (either (leb 0x38 c && leb c 0x3B) (act _) none)))))))))
 
   -- a plan for shutters
-  motion_each : ((a : Motion) → P (Move a)) → (u d c : ℕ) → P (motion_plan u d c)
+  motion_each : ((a : Motion) → P (Ok (Move a))) → (u d c : ℕ) → P (motion_plan u d c)
   unfolding motion_plan
   motion_each move u d c =
       either (eqb c 0x01) (move _)
@@ -83,36 +84,51 @@ module _ (P : Plan → Type 0) (none : P not_carried) where
       (either (eqb c 0x0C) (move _)
       (either (eqb c 0x0E || eqb c 0x0F) (move _) none)))))))))))
 
-  pub plan_each : ((a : Act) → P (Run a)) → ((a : Motion) → P (Move a)) → (m : Message) → P (plan_of m)
+  pub plan_each : ((a : Act) → P (Ok (Run a))) → ((a : Motion) → P (Ok (Move a))) → (m : Message) → P (plan_of m)
   plan_each act move (Calls h u) = act _
   plan_each act move (Command h f) = act _
   plan_each act move (Extended h u d c) = either (eqb (c / 16) 0) (motion_each move u d c) (extended_each act u d c)
 
 -- a plan that does not run is NOT CARRIED
-abbrev Settled : Plan → Type 0
-Settled p = p ≡ judged (unless (runs p) refusal.NotCarried ∷ []) p Refused
+abbrev Settled : Result Plan Refusal → Type 0
+Settled p = p ≡ judged (unless (runs p) refusal.NotCarried ∷ []) p Err
 
-pub plan_rest : (m : Message) → plan_of m ≡ judged (unless (carried m) refusal.NotCarried ∷ []) (plan_of m) Refused
+pub plan_rest : (m : Message) → plan_of m ≡ judged (unless (carried m) refusal.NotCarried ∷ []) (plan_of m) Err
 unfolding judged
 plan_rest = plan_each Settled refl (λ a. refl) (λ a. refl)
 
 -- such a plan is judged alike without the first cause
-settled_rest : (p : Plan) → Settled p
-    → judged (unless (fits p) refusal.Opening ∷ []) p Refused
-    ≡ judged (unless (runs p) refusal.NotCarried ∷ unless (fits p) refusal.Opening ∷ []) p Refused
+settled_rest : (p : Result Plan Refusal) → Settled p
+    → judged (unless (fits p) refusal.Opening ∷ []) p Err
+    ≡ judged (unless (runs p) refusal.NotCarried ∷ unless (fits p) refusal.Opening ∷ []) p Err
 unfolding judged
-settled_rest (Run a) e = refl
-settled_rest (Move a) e = refl
-settled_rest (Refused why) e = e
+settled_rest (Ok (Run a)) e = refl
+settled_rest (Ok (Move a)) e = refl
+settled_rest (Err why) e = e
 
 pub fits_rest : (m : Message)
-    → judged (unless (fits (plan_of m)) refusal.Opening ∷ []) (plan_of m) Refused
-    ≡ judged (unless (carried m) refusal.NotCarried ∷ unless (fits (plan_of m)) refusal.Opening ∷ []) (plan_of m) Refused
+    → judged (unless (fits (plan_of m)) refusal.Opening ∷ []) (plan_of m) Err
+    ≡ judged (unless (carried m) refusal.NotCarried ∷ unless (fits (plan_of m)) refusal.Opening ∷ []) (plan_of m) Err
 fits_rest m = settled_rest (plan_of m) (plan_rest m)
+
+-- past the first test the plan is the answer, unless its opening is above 25
+pub asked_rest : (m : Message) {p : Result Plan Refusal} → plan_of m ≡ p → fits p ≡ true
+    → p ≡ judged (unless (carried m) refusal.NotCarried ∷ unless (fits (plan_of m)) refusal.Opening ∷ []) (plan_of m) Err
+unfolding judged
+asked_rest m {p} e f =
+    let fit : plan_of m ≡ judged (unless (fits (plan_of m)) refusal.Opening ∷ []) (plan_of m) Err = rw (ap fits e ∙ f) refl in
+    sym e ∙ fit ∙ fits_rest m
+
+pub unfit_rest : (m : Message) {p : Result Plan Refusal} → plan_of m ≡ p → fits p ≡ false
+    → Err refusal.Opening ≡ judged (unless (carried m) refusal.NotCarried ∷ unless (fits (plan_of m)) refusal.Opening ∷ []) (plan_of m) Err
+unfolding judged
+unfit_rest m {p} e f =
+    let unfit : Err refusal.Opening ≡ judged (unless (fits (plan_of m)) refusal.Opening ∷ []) (plan_of m) Err = rw (ap fits e ∙ f) refl in
+    unfit ∙ fits_rest m
 
 -- ---- what an answer says
 
-pub answer_runs : (m : Message) (p : Plan) → plan_answer m ≡ p → runs p ≡ true
+pub answer_runs : (m : Message) (p : Result Plan Refusal) → plan_answer m ≡ p → runs p ≡ true
     → (message_ok m ≡ true) × (carried m ≡ true) × (fits (plan_of m) ≡ true) × (plan_of m ≡ p)
 unfolding plan_answer
 answer_runs m p e t =
@@ -122,12 +138,12 @@ answer_runs m p e t =
   where
     told : (number_given (plan_causes m) ≡ 0) × (plan_of m ≡ p)
     told =
-        judged_holds (λ q. q ≡ p → (number_given (plan_causes m) ≡ 0) × (plan_of m ≡ p)) (plan_of m) Refused (plan_causes m)
+        judged_holds (λ q. q ≡ p → (number_given (plan_causes m) ≡ 0) × (plan_of m ≡ p)) (plan_of m) Err (plan_causes m)
         (λ none is. (none, is))
         (λ why is. absurd (false≢true (ap runs is ∙ t)))
         e
 
-pub answer_refused : (m : Message) (why : Refusal) → message_ok m ≡ true → plan_answer m ≡ Refused why
+pub answer_refused : (m : Message) (why : Refusal) → message_ok m ≡ true → plan_answer m ≡ Err why
     → ((carried m ≡ false) × (why ≡ refusal.NotCarried)) ⊎ ((carried m ≡ true) × (fits (plan_of m) ≡ false) × (why ≡ refusal.Opening))
 unfolding plan_answer judged
 answer_refused m why t e = go (carried m) (fits (plan_of m)) refl refl
@@ -143,12 +159,12 @@ answer_refused m why t e = go (carried m) (fits (plan_of m)) refl refl
 pub carried_runs : CarriedRuns
 carried_runs m = (go (plan_of m), back)
   where
-    go : (p : Plan) → runs p ≡ true → ((a : Act) × (p ≡ Run a)) ⊎ ((a : Motion) × (p ≡ Move a))
-    go (Run a) t = inl (a, refl)
-    go (Move a) t = inr (a, refl)
-    go (Refused why) t = absurd (false≢true t)
+    go : (p : Result Plan Refusal) → runs p ≡ true → ((a : Act) × (p ≡ Ok (Run a))) ⊎ ((a : Motion) × (p ≡ Ok (Move a)))
+    go (Ok (Run a)) t = inl (a, refl)
+    go (Ok (Move a)) t = inr (a, refl)
+    go (Err why) t = absurd (false≢true t)
 
-    back : ((a : Act) × (plan_of m ≡ Run a)) ⊎ ((a : Motion) × (plan_of m ≡ Move a)) → carried m ≡ true
+    back : ((a : Act) × (plan_of m ≡ Ok (Run a))) ⊎ ((a : Motion) × (plan_of m ≡ Ok (Move a))) → carried m ≡ true
     back (inl (a, e)) = rw e
     back (inr (a, e)) = rw e
 
@@ -163,23 +179,23 @@ alike_same false true e = absurd (false≢true e)
 alike_same false false e = refl
 
 -- no act is a motion
-apart : {a : Act} {b : Motion} → Run a ≡ Move b → ⊥
+apart : {a : Act} {b : Motion} → ◌≡◌ {A = Result Plan Refusal} (Ok (Run a)) (Ok (Move b)) → ⊥
 apart e = let z : ◌≡◌ {A = ℕ} 0 1 = cc in omega arith
 
-no_act : (m : Message) (a : Act) → type_zero m ≡ true → plan_of m ≡ Run a → ⊥
+no_act : (m : Message) (a : Act) → type_zero m ≡ true → plan_of m ≡ Ok (Run a) → ⊥
 no_act (Calls h u) a type e = false≢true type
 no_act (Command h f) a type e = false≢true type
 no_act (Extended h u d c) a type e =
-    motion_each (λ p. p ≡ Run a → ⊥) (λ e. false≢true (ap runs e)) (λ b e. apart (sym e)) u d c (rw type at e)
+    motion_each (λ p. p ≡ Ok (Run a) → ⊥) (λ e. false≢true (ap runs e)) (λ b e. apart (sym e)) u d c (rw type at e)
 
-only_extended : (m : Message) (a : Motion) → plan_of m ≡ Move a → type_zero m ≡ true
+only_extended : (m : Message) (a : Motion) → plan_of m ≡ Ok (Move a) → type_zero m ≡ true
 only_extended (Calls h u) a e = absurd (apart e)
 only_extended (Command h f) a e = absurd (apart e)
 only_extended (Extended h u d c) a e = go (for_shutters c) refl
   where
     go : (b : Bool) → for_shutters c ≡ b → for_shutters c ≡ true
     go true t = t
-    go false t = absurd (extended_each (λ p. p ≡ Move a → ⊥) (λ e. false≢true (ap runs e)) (λ b e. apart e) u d c (rw t at e))
+    go false t = absurd (extended_each (λ p. p ≡ Ok (Move a) → ⊥) (λ e. false≢true (ap runs e)) (λ b e. apart e) u d c (rw t at e))
 
 pub only_type_zero : OnlyTypeZero
 only_type_zero = record { of_type_zero = no_act; others = only_extended }
@@ -203,8 +219,8 @@ group_forms_carried =
       status = λ h u d. status (bit 5 d) (bit 4 d) _;
     }
   where
-    either_runs : (b : Bool) (x y : Act) → runs (pick b (Run x) (Run y)) ≡ true
-    either_runs b x y = pick_both (λ p. runs p ≡ true) b (Run x) (Run y) refl refl
+    either_runs : (b : Bool) (x y : Act) → runs (pick b (Ok (Run x)) (Ok (Run y))) ≡ true
+    either_runs b x y = pick_both (λ p. runs p ≡ true) b (Ok (Run x)) (Ok (Run y)) refl refl
 
     all : (u d c : ℕ) → Dec (c ≡ 0x30) → Dec (c ≡ 0x36) → Dec (c ≡ 0x3C) → (eqb c 0x30 || eqb c 0x36 || eqb c 0x3C) ≡ true
         → runs (pick (for_shutters c) (motion_plan u d c) (extended_plan u d c)) ≡ true
@@ -213,7 +229,7 @@ group_forms_carried =
     all u d c (no _) (no _) (yes e) is = rw e (either_runs (bit 4 d) _ _)
     all u d c (no a) (no b) (no n) is = absurd (false≢true (rw (ne_eqb _ _ a, ne_eqb _ _ b, ne_eqb _ _ n) at is))
 
-    status : (a b z : Bool) → runs (pick (not a || b || z) (Run Nothing) not_carried) ≡ not (a && not b && not z)
+    status : (a b z : Bool) → runs (pick (not a || b || z) (Ok (Run Nothing)) not_carried) ≡ not (a && not b && not z)
     status true true z = refl
     status true false true = refl
     status true false false = refl
@@ -231,7 +247,7 @@ above_25 x = go (leb 26 x) refl
     go false t = rw t (le-leb x 25 (ltb-false 25 x t))
 
 -- a choice of plans fits where the chosen one does
-pick_fits : (b : Bool) (p q : Plan) → fits (pick b p q) ≡ pick b (fits p) (fits q)
+pick_fits : (b : Bool) (p q : Result Plan Refusal) → fits (pick b p q) ≡ pick b (fits p) (fits q)
 pick_fits true p q = refl
 pick_fits false p q = refl
 

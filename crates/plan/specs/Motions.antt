@@ -1,13 +1,14 @@
 -- What a message of type 0 asks of the shutters (02, A1; XTC798, 'TYPE = 0 Shutters and Sunshades'), in the order of XTC798's table. What a motion
 -- makes of a shutter is in shutter's Shutters.
-use Rattle.std.specs.Prelude.{ℕ, ◌/◌, ◌%◌, Bool, ◌||◌, eqb, leb}
+use Rattle.std.specs.Prelude.{ℕ, ◌/◌, ◌%◌, Bool, ◌||◌, eqb, leb, Result, Ok, Err}
 use Rattle.ground.specs.Choice.{pick}
 use Rattle.ground.specs.declared.Refusal.TheVariants as refusal
 use Rattle.plan.specs.declared.Motion.{Motion}
 use Rattle.plan.specs.declared.Motion.TheVariants.{SelfTest, OpenProtected, Limit, OpenUnprotected, OpenHouse, OpenAll}
 use Rattle.plan.specs.declared.Motion.TheVariants.{Include, Begin, Exclude, ExcludeAll, CloseHouse, CloseAll}
 use Rattle.plan.specs.declared.Plan.{Plan}
-use Rattle.plan.specs.declared.Plan.TheVariants.{Move, Refused}
+use Rattle.plan.specs.declared.Plan.TheVariants.{Move}
+use Rattle.ground.specs.declared.Refusal.{Refusal}
 
 -- "x x x D D D D D": D is the data's low five bits; "L4 L2 L1": L is its top three
 abbrev pub opening_in : ℕ → ℕ
@@ -21,21 +22,21 @@ abbrev pub OPEN : ℕ
 OPEN = 25
 
 -- by unit, data and command of type 0: "0E and 0F are heard only"; 00, 06 and 0D are NOT CARRIED
-unfoldable pub motion_plan : ℕ → ℕ → ℕ → Plan
+unfoldable pub motion_plan : ℕ → ℕ → ℕ → Result Plan Refusal
 motion_plan u d c =
-    pick (eqb c 0x01) (Move (OpenProtected u (opening_in d)))
-    (pick (eqb c 0x02) (Move (Limit u (opening_in d)))
-    (pick (eqb c 0x03) (Move (OpenUnprotected u (opening_in d)))
-    (pick (eqb c 0x04) (Move OpenHouse)
-    (pick (eqb c 0x05) (Move OpenAll)
-    (pick (eqb c 0x07) (Move (Include u (lifestyle_in d) (opening_in d)))
-    (pick (eqb c 0x08) (Move (Begin (lifestyle_in d)))
-    (pick (eqb c 0x09) (Move (Exclude u (lifestyle_in d)))
-    (pick (eqb c 0x0A) (Move ExcludeAll)
-    (pick (eqb c 0x0B) (Move CloseHouse)
-    (pick (eqb c 0x0C) (Move CloseAll)
-    (pick (eqb c 0x0E || eqb c 0x0F) (Move SelfTest)
-    (Refused refusal.NotCarried))))))))))))
+    pick (eqb c 0x01) (Ok (Move (OpenProtected u (opening_in d))))
+    (pick (eqb c 0x02) (Ok (Move (Limit u (opening_in d))))
+    (pick (eqb c 0x03) (Ok (Move (OpenUnprotected u (opening_in d))))
+    (pick (eqb c 0x04) (Ok (Move OpenHouse))
+    (pick (eqb c 0x05) (Ok (Move OpenAll))
+    (pick (eqb c 0x07) (Ok (Move (Include u (lifestyle_in d) (opening_in d))))
+    (pick (eqb c 0x08) (Ok (Move (Begin (lifestyle_in d))))
+    (pick (eqb c 0x09) (Ok (Move (Exclude u (lifestyle_in d))))
+    (pick (eqb c 0x0A) (Ok (Move ExcludeAll))
+    (pick (eqb c 0x0B) (Ok (Move CloseHouse))
+    (pick (eqb c 0x0C) (Ok (Move CloseAll))
+    (pick (eqb c 0x0E || eqb c 0x0F) (Ok (Move SelfTest))
+    (Err refusal.NotCarried))))))))))))
 
 -- "01, 02, 03 or 07 carries": the opening that a motion brings, and 0 where it brings none
 abbrev pub brought_by : Motion → ℕ

@@ -1,5 +1,5 @@
 -- What holds of plans: proofs/PlanLaws.antt.
-use Rattle.std.specs.Prelude.{ℕ, ◌%◌, ◌<◌, eqb, leb, ◌≡◌, Bool, true, false, not, ◌&&◌, ◌||◌, ◌↔◌, ◌⊎◌}
+use Rattle.std.specs.Prelude.{ℕ, ◌%◌, ◌<◌, eqb, leb, ◌≡◌, Bool, true, false, not, ◌&&◌, ◌||◌, ◌↔◌, ◌⊎◌, Ok}
 use Rattle.ground.specs.Refusals.{number_given, lowest}
 use Rattle.message.specs.declared.Message.{Message}
 use Rattle.message.specs.declared.Message.TheVariants.{Extended}
@@ -11,12 +11,12 @@ use Rattle.plan.specs.Plans.{bit, ABSOLUTE, reference_in, type_zero, for_shutter
 
 -- a message is carried exactly when it asks for an act or a motion
 abbrev pub CarriedRuns : Type 0
-CarriedRuns = (m : Message) → (carried m ≡ true) ↔ (((a : Act) × (plan_of m ≡ Run a)) ⊎ ((a : Motion) × (plan_of m ≡ Move a)))
+CarriedRuns = (m : Message) → (carried m ≡ true) ↔ (((a : Act) × (plan_of m ≡ Ok (Run a))) ⊎ ((a : Motion) × (plan_of m ≡ Ok (Move a))))
 
 -- motions are what type 0 asks for, "and it never changes the module table"; no other message asks for one
 pub record OnlyTypeZero : Type 0 where
-  pub of_type_zero : (m : Message) (a : Act) → type_zero m ≡ true → plan_of m ≡ Run a → ⊥
-  pub others : (m : Message) (a : Motion) → plan_of m ≡ Move a → type_zero m ≡ true
+  pub of_type_zero : (m : Message) (a : Act) → type_zero m ≡ true → plan_of m ≡ Ok (Run a) → ⊥
+  pub others : (m : Message) (a : Motion) → plan_of m ≡ Ok (Move a) → type_zero m ≡ true
 
 -- of type 0, "01 to 05, 07 to 0C" act and "0E and 0F are heard only"; 00, 06 and 0D are not carried
 abbrev pub WhichCarried : Type 0

@@ -2,10 +2,8 @@
 
 #![tactic(auto)]
 
-ghost use Rattle.std.specs.Prelude.{◌≡◌, [], ◌∷◌};
-ghost use Rattle.ground.specs.Refusals.{unless, judged, refuses};
-ghost use Rattle.ground.specs.declared.Refusal.TheVariants.{Opening};
-ghost use Rattle.plan.specs.declared.Plan.TheVariants.{Refused};
+ghost use Rattle.std.specs.Prelude.{◌≡◌, Ok};
+ghost use Rattle.ground.specs.Refusals.{judged, refuses};
 ghost use Rattle.plan.specs.Motions.{motion_fits};
 ghost use Rattle.plan.specs.Plans.{bit, house_of, plan_of, carried, fits, plan_causes, plan_answer, plan_report};
 
@@ -18,7 +16,7 @@ mod motions;
 // The opening of a shutter that is fully open.
 pub const OPEN: u8 = 25;
 
-// The reference of a membership, or of a group command, that is absolute: those that are relative have one of 0 to 15.
+// The reference of a membership, or of a group command, that is absolute: those that are relative have one of 0 to 15. A number, as the table's byte has it.
 pub const ABSOLUTE: u8 = 16;
 
 // What is asked of the members of a group.
@@ -132,12 +130,11 @@ pub enum Motion {
     CloseAll,
 }
 
-// What becomes of a message: an act is run on modules, a motion on shutters, or the message is refused.
+// What becomes of a message: an act is run on modules, a motion on shutters.
 #[derive(Clone, Copy)]
 pub enum Plan {
     Run(Act),
     Move(Motion),
-    Refused(Refusal),
 }
 
 // Whether bit k of a byte is set. A byte has no bit above 7.
@@ -152,29 +149,24 @@ pub fn house_of(m: Message) -> u8
     ensures { result ≡ house_of m }
 {
     match m {
-        Message::Address { house, unit: _ } => house,
-        Message::Function { house, function: _ } => house,
-        Message::Extended {
-            house,
-            unit: _,
-            data: _,
-            command: _,
-        } => house,
+        Message::Address { house, .. }
+        | Message::Function { house, .. }
+        | Message::Extended { house, .. } => house,
     }
 }
 
 // What a message asks. Its house and unit are not judged.
-fn asked(m: Message) -> Plan
+fn asked(m: Message) -> Result<Plan, Refusal>
     ensures { result ≡ plan_of m }
 {
     match m {
-        Message::Address { house: _, unit } => Plan::Run(Act::Address { unit: unit }),
-        Message::Function { house: _, function } => Plan::Run(Act::Obey(function)),
+        Message::Address { unit, .. } => Ok(Plan::Run(Act::Address { unit })),
+        Message::Function { function, .. } => Ok(Plan::Run(Act::Obey(function))),
         Message::Extended {
-            house: _,
             unit,
             data,
             command,
+            ..
         } => {
             if command / 16 == 0 {
                 motions::motion_plan(unit, data, command)
@@ -192,20 +184,13 @@ pub fn motion_fits(motion: Motion) -> bool
     motions::brought_by(motion) <= OPEN
 }
 
-// A plan, refused where it brings an opening above 25.
-fn fitting(p: Plan) -> Plan
-    ensures { result ≡ judged (unless (fits p) Opening ∷ []) p Refused }
+// Whether the opening that a plan brings, if it brings one, is one that there is.
+fn fits(p: Plan) -> bool
+    ensures { result ≡ fits (Ok p) }
 {
     match p {
-        Plan::Run(act) => Plan::Run(act),
-        Plan::Move(motion) => {
-            if motion_fits(motion) {
-                Plan::Move(motion)
-            } else {
-                Plan::Refused(Refusal::Opening)
-            }
-        }
-        Plan::Refused(why) => Plan::Refused(why),
+        Plan::Run(_) => true,
+        Plan::Move(motion) => motion_fits(motion),
     }
 }
 
@@ -213,20 +198,20 @@ fn fitting(p: Plan) -> Plan
 pub fn carried(m: Message) -> bool
     ensures { result ≡ carried m }
 {
-    match asked(m) {
-        Plan::Run(_) => true,
-        Plan::Move(_) => true,
-        Plan::Refused(_) => false,
-    }
+    asked(m).is_ok()
 }
 
 // What a message asks for: refused where its house or unit is above 15, where it is not carried, and where its opening is above 25.
-pub fn plan_for(m: Message) -> Plan
+pub fn plan_for(m: Message) -> Result<Plan, Refusal>
     ensures answer { result ≡ plan_answer m }
     ensures report { plan_report result ≡ judged (plan_causes m) (plan_report (plan_of m)) refuses }
 {
     if !message::valid(m) {
-        return Plan::Refused(Refusal::Message);
+        return Err(Refusal::Message);
     }
-    fitting(asked(m))
+    let plan = asked(m)?;
+    if !fits(plan) {
+        return Err(Refusal::Opening);
+    }
+    Ok(plan)
 }

@@ -3,26 +3,22 @@
 --     write_given                                            a valid command's four bytes are given
 --     read_given, Read, read_cases                           the codes of the valid commands are read, and no others
 --     write_reported, read_reported, messages_reported       the reports that the contracts promise
-use mathlib.Core.Path.{◌≡◌, refl, ap, ◌∙◌}
+use Rattle.std.specs.Prelude.{Ok, Err}
+use mathlib.Core.Path.{◌≡◌, refl, ap}
 use mathlib.Core.Bool.{Bool, true, false}
 use mathlib.Core.List.{List, [], ◌∷◌}
 use Prim.Native.Nat.{ℕ, ◌-◌}
 use borrow.Author.Tests.{eq-eqb}
 use lib.Dec.{eqb}
 use lib.ListN.{length}
-use Rattle.ground.specs.Refusals.{Report, reports, refuses, judged}
+use Rattle.ground.specs.Refusals.{reports, refuses, judged}
 use Rattle.ground.specs.declared.Refusal.{Refusal}
 use Rattle.ground.specs.declared.Refusal.TheVariants as refusal
 use Rattle.ground.proofs.Causes.{judged_map}
-use Rattle.message.specs.declared.Message.{Message}
 use Rattle.radio.specs.Codes.{byte_b, byte_c, code_from, four_bytes, command_ok, among, command_of}
 use Rattle.radio.specs.Answers.{write_causes, write_answer, write_report, complementary, read_causes, read_answer, read_report}
-use Rattle.radio.specs.Answers.{messages_meant, messages_of, messages_causes, messages_answer, messages_report}
+use Rattle.radio.specs.Answers.{messages_of, messages_causes, messages_answer, messages_report}
 use Rattle.radio.specs.declared.RadioCommand.{RadioCommand}
-use Rattle.radio.specs.declared.RadioCommand.TheVariants.{On, Off, Bright, Dim}
-use Rattle.radio.specs.declared.RadioBytes.TheVariants as bytes
-use Rattle.radio.specs.declared.RadioRead.TheVariants as read
-use Rattle.radio.specs.declared.RadioMessages.TheVariants as messages
 use Rattle.radio.proofs.CommandLaws.{code_of-named, named_of_code}
 
 -- ---- the writer
@@ -35,8 +31,8 @@ write_given k ok = simp ok
 
 -- bytes are read as the valid command whose code they are, or refused
 pub data Read (code : List ℕ) : Type 0 where
-  named : (k : RadioCommand) → command_ok k ≡ true → four_bytes k ≡ code → read_answer code ≡ read.Command k → Read code
-  refused : (why : Refusal) → read_answer code ≡ read.Refused why → Read code
+  named : (k : RadioCommand) → command_ok k ≡ true → four_bytes k ≡ code → read_answer code ≡ Ok k → Read code
+  refused : (why : Refusal) → read_answer code ≡ Err why → Read code
 
 pub read_cases : (code : List ℕ) → Read code
 unfolding read_answer judged
@@ -54,30 +50,22 @@ read_cases code = go (eqb (length code) 4) (complementary code) (among code) ref
 pairs : (b c : ℕ) → complementary (code_from b c) ≡ true
 pairs b c = simp (eq-eqb (255 - b) (255 - b) refl, eq-eqb (255 - c) (255 - c) refl)
 
-pub read_given : (k : RadioCommand) → command_ok k ≡ true → read_answer (four_bytes k) ≡ read.Command k
+pub read_given : (k : RadioCommand) → command_ok k ≡ true → read_answer (four_bytes k) ≡ Ok k
 unfolding read_answer judged
 read_given k ok =
     let it = named_of_code k ok in
-    simp (pairs (byte_b k) (byte_c k), it.0) (ap read.Command it.1)
+    simp (pairs (byte_b k) (byte_c k), it.0) (ap Ok it.1)
 
 -- ---- what the answers report
 
 pub write_reported : (k : RadioCommand) → write_report (write_answer k) ≡ judged (write_causes k) (reports (four_bytes k)) refuses
 unfolding write_answer
-write_reported k = judged_map write_report _ bytes.Refused (write_causes k)
+write_reported k = judged_map write_report _ Err (write_causes k)
 
 pub read_reported : (code : List ℕ) → read_report (read_answer code) ≡ judged (read_causes code) (reports (command_of code ∷ [])) refuses
 unfolding read_answer
-read_reported code = judged_map read_report _ read.Refused (read_causes code)
-
-pub meant_reported : (k : RadioCommand) → messages_report (messages_meant k) ≡ reports (messages_of k)
-meant_reported (On h u) = refl
-meant_reported (Off h u) = refl
-meant_reported (Bright h) = refl
-meant_reported (Dim h) = refl
+read_reported code = judged_map read_report _ Err (read_causes code)
 
 pub messages_reported : (k : RadioCommand) → messages_report (messages_answer k) ≡ judged (messages_causes k) (reports (messages_of k)) refuses
 unfolding messages_answer
-messages_reported k =
-    judged_map messages_report _ messages.Refused (messages_causes k)
-    ∙ ap (λ (x : Report Message). judged (messages_causes k) x refuses) (meant_reported k)
+messages_reported k = judged_map messages_report _ Err (messages_causes k)

@@ -6,6 +6,7 @@
 --     on_named, off_named, bright_named, dim_named     the command of such b and c: its b and c are these
 --     switch_told, step_told                           the code's tests whether b and c are those of such a code
 --     answered, unanswered                             what the reader answers for b and c
+use Rattle.std.specs.Prelude.{Ok, Err}
 use mathlib.Core.Path.{◌≡◌, refl, sym, ap, ◌∙◌}
 use mathlib.Core.Bool.{Bool, true, false, not, ◌&&◌, ◌||◌, and-eq-true_iff, true≢false}
 use mathlib.Core.List.{List, [], ◌∷◌}
@@ -22,7 +23,6 @@ use Rattle.ground.proofs.Choices.{both}
 use Rattle.radio.specs.Codes.{house_of_nibble, house_in_b, unit_in_b, unit_in_c, unit_from, byte_b, byte_c, code_from, command_ok, among, command_of}
 use Rattle.radio.specs.Codes.{is_switch, switch_code, step_code}
 use Rattle.radio.specs.Answers.{named_answer}
-use Rattle.radio.specs.declared.RadioRead.TheVariants as read
 use Rattle.radio.specs.declared.RadioCommand.{RadioCommand}
 use Rattle.radio.specs.declared.RadioCommand.TheVariants.{On, Off, Bright, Dim}
 use Rattle.radio.proofs.CodeLaws.{house_read_back, house_of_nibble-below, bit_below, Bits, bits, in_c, digits}
@@ -216,11 +216,11 @@ module _ (b c : ℕ) (small : b < 256) where
 -- ---- what the reader answers for b and c
 
 module _ (b c : ℕ) where
-  pub answered : (k : RadioCommand) → (among (code_from b c) ≡ true) × (command_of (code_from b c) ≡ k) → read.Command k ≡ named_answer (code_from b c)
+  pub answered : (k : RadioCommand) → (among (code_from b c) ≡ true) × (command_of (code_from b c) ≡ k) → Ok k ≡ named_answer (code_from b c)
   unfolding judged
   answered k it = simp (it.0, it.1)
 
-  pub unanswered : switch_code (code_from b c) ≡ false → step_code (code_from b c) ≡ false → read.Refused refusal.Code ≡ named_answer (code_from b c)
+  pub unanswered : switch_code (code_from b c) ≡ false → step_code (code_from b c) ≡ false → Err refusal.Code ≡ named_answer (code_from b c)
   unfolding judged
   unanswered switch step = simp (go (among (code_from b c)) (is_switch (command_of (code_from b c))) switch step)
     where

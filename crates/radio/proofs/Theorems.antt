@@ -1,4 +1,5 @@
 -- The statements of specs/Statements.antt about codes and answers, proved.
+use Rattle.std.specs.Prelude.{Ok}
 use mathlib.Core.Path.{◌≡◌, refl, sym, ap, subst, ◌∙◌}
 use mathlib.Core.Bool.{Bool, true, false, and-eq-true_iff}
 use mathlib.Core.List.Memᴰ
@@ -16,7 +17,6 @@ use Rattle.radio.specs.Answers.{write_causes, read_causes, read_answer, read_rep
 use Rattle.radio.specs.Statements.{Exactly544, ReadOfWritten, WrittenOfRead, MessagesValid, LowestNumbers}
 use Rattle.radio.specs.declared.RadioCommand.{RadioCommand}
 use Rattle.radio.specs.declared.RadioCommand.TheVariants.{On, Off, Bright, Dim}
-use Rattle.radio.specs.declared.RadioRead.TheVariants as read
 use Rattle.radio.proofs.CodeLaws.{no_shared_code}
 use Rattle.radio.proofs.CommandLaws.{get_d_mem, every_mem, in_commands, commands_ok, commands_count, commands_one_to_one, codes_count_lem}
 use Rattle.radio.proofs.AnswerLaws.{write_given, Read, named, refused, read_cases, read_given, write_reported, read_reported, messages_reported}
@@ -27,7 +27,7 @@ pub read_of-written : ReadOfWritten
 read_of-written k ok = (write_given k ok, read_given k ok)
 
 -- what is read is a valid command, and these are its bytes
-pub read_as : (k : RadioCommand) (code : List ℕ) → read_answer code ≡ read.Command k → (command_ok k ≡ true) × (four_bytes k ≡ code)
+pub read_as : (k : RadioCommand) (code : List ℕ) → read_answer code ≡ Ok k → (command_ok k ≡ true) × (four_bytes k ≡ code)
 read_as k code e = go (read_cases code)
   where
     go : Read code → (command_ok k ≡ true) × (four_bytes k ≡ code)

@@ -1,4 +1,5 @@
 -- UnitByItsBits and TurnedUnitBit, proved. An on and an off differ in one bit of c, so that one argument, by that bit, is made for both.
+use Rattle.std.specs.Prelude.{Ok}
 use mathlib.Core.Path.{◌≡◌, refl, sym, ap, ap₂, ◌∙◌}
 use mathlib.Core.Bool.{true, ◌&&◌, and-eq-true_iff}
 use mathlib.Core.List.{[], ◌∷◌, Memᴰ}
@@ -11,7 +12,6 @@ use Rattle.radio.specs.Codes.{Place, its, unit_bits, house_in_b, unit_in_b, unit
 use Rattle.radio.specs.Answers.{read_answer}
 use Rattle.radio.specs.Statements.{OnOrOff, on, off, UnitByItsBits, turned, turned_at, TurnedUnitBit}
 use Rattle.radio.specs.declared.RadioCommand.{RadioCommand}
-use Rattle.radio.specs.declared.RadioRead.TheVariants as read
 use Rattle.radio.proofs.CodeLaws.{unit_told}
 use Rattle.radio.proofs.AnswerLaws.{read_given}
 use Rattle.radio.proofs.TurnedLaws.{moved_below, turned_code}
@@ -39,7 +39,7 @@ record ReadSwitch (switch : ℕ → ℕ → RadioCommand) (h u b x c y : ℕ) : 
   y_is : 255 - byte_c (switch h u) ≡ y
 
 module _ (switch : ℕ → ℕ → RadioCommand) (s : Switch switch) (h u b x c y : ℕ) where
-  read_switch : read_answer (b ∷ x ∷ c ∷ y ∷ []) ≡ read.Command (switch h u) → ReadSwitch switch h u b x c y
+  read_switch : read_answer (b ∷ x ∷ c ∷ y ∷ []) ≡ Ok (switch h u) → ReadSwitch switch h u b x c y
   read_switch e =
       let it = read_as (switch h u) (b ∷ x ∷ c ∷ y ∷ []) e in
       let ok = (and-eq-true_iff (leb h 15) (leb u 15)).0 (sym (s.ok_is h u) ∙ it.0) in

@@ -1,20 +1,17 @@
 -- What the routines on radio bytes answer (01, 'Radio bytes', 'Numbers given back').
-use Rattle.std.specs.Prelude.{ℕ, ◌-◌, Bool, ◌&&◌, List, [], ◌∷◌, eqb, length, get_or, drop}
+use Rattle.std.specs.Prelude.{ℕ, ◌-◌, Bool, ◌&&◌, List, [], ◌∷◌, eqb, length, get_or, drop, Result, Ok, Err}
 use Rattle.ground.specs.Refusals.{Report, reports, refuses, Cause, unless, judged}
 use Rattle.ground.specs.declared.Refusal.TheVariants as refusal
 use Rattle.message.specs.declared.Function.{Function}
 use Rattle.message.specs.declared.Function.TheVariants as function
 use Rattle.message.specs.declared.Message.{Message}
 use Rattle.message.specs.declared.Message.TheVariants as message
-use Rattle.radio.specs.Codes.{byte_b, byte_c, command_ok, among, command_of}
+use Rattle.radio.specs.Codes.{command_ok, among, four_bytes, command_of}
 use Rattle.radio.specs.declared.RadioCommand.{RadioCommand}
 use Rattle.radio.specs.declared.RadioCommand.TheVariants.{On, Off, Bright, Dim}
-use Rattle.radio.specs.declared.RadioBytes.{RadioBytes}
-use Rattle.radio.specs.declared.RadioBytes.TheVariants as bytes
-use Rattle.radio.specs.declared.RadioRead.{RadioRead}
-use Rattle.radio.specs.declared.RadioRead.TheVariants as read
 use Rattle.radio.specs.declared.RadioMessages.{RadioMessages}
 use Rattle.radio.specs.declared.RadioMessages.TheVariants as messages
+use Rattle.ground.specs.declared.Refusal.{Refusal}
 
 -- ---- the writer
 
@@ -23,13 +20,13 @@ abbrev pub write_causes : RadioCommand → List Cause
 write_causes k = unless (command_ok k) refusal.Message ∷ []
 
 -- "the writer takes such a command and hands its four bytes back by value"
-unfoldable pub write_answer : RadioCommand → RadioBytes
-write_answer k = judged (write_causes k) (bytes.Bytes (byte_b k) (255 - byte_b k) (byte_c k) (255 - byte_c k)) bytes.Refused
+unfoldable pub write_answer : RadioCommand → Result (List ℕ) Refusal
+write_answer k = judged (write_causes k) (Ok (four_bytes k)) Err
 
 -- the number and the bytes of each answer
-abbrev pub write_report : RadioBytes → Report ℕ
-write_report (bytes.Bytes b x c y) = reports (b ∷ x ∷ c ∷ y ∷ [])
-write_report (bytes.Refused why) = refuses why
+abbrev pub write_report : Result (List ℕ) Refusal → Report ℕ
+write_report (Ok bytes) = reports bytes
+write_report (Err why) = refuses why
 
 -- ---- the reader
 
@@ -45,17 +42,17 @@ read_causes code =
     ∷ unless (among code) refusal.Code
     ∷ []
 
-unfoldable pub read_answer : List ℕ → RadioRead
-read_answer code = judged (read_causes code) (read.Command (command_of code)) read.Refused
+unfoldable pub read_answer : List ℕ → Result RadioCommand Refusal
+read_answer code = judged (read_causes code) (Ok (command_of code)) Err
 
 -- what is left to answer where 12 and 13 do not apply: by the third cause alone
-abbrev pub named_answer : List ℕ → RadioRead
-named_answer code = judged (drop 2 (read_causes code)) (read.Command (command_of code)) read.Refused
+abbrev pub named_answer : List ℕ → Result RadioCommand Refusal
+named_answer code = judged (drop 2 (read_causes code)) (Ok (command_of code)) Err
 
 -- the number and the command of each answer
-abbrev pub read_report : RadioRead → Report RadioCommand
-read_report (read.Command k) = reports (k ∷ [])
-read_report (read.Refused why) = refuses why
+abbrev pub read_report : Result RadioCommand Refusal → Report RadioCommand
+read_report (Ok k) = reports (k ∷ [])
+read_report (Err why) = refuses why
 
 -- ---- the messages
 
@@ -73,15 +70,18 @@ messages_meant (Dim h) = messages.One (message.Function h function.Dim)
 abbrev pub messages_causes : RadioCommand → List Cause
 messages_causes k = unless (command_ok k) refusal.Message ∷ []
 
-unfoldable pub messages_answer : RadioCommand → RadioMessages
-messages_answer k = judged (messages_causes k) (messages_meant k) messages.Refused
+unfoldable pub messages_answer : RadioCommand → Result RadioMessages Refusal
+messages_answer k = judged (messages_causes k) (Ok (messages_meant k)) Err
 
 -- the number and the messages of each answer
-abbrev pub messages_report : RadioMessages → Report Message
-messages_report (messages.Two m n) = reports (m ∷ n ∷ [])
-messages_report (messages.One m) = reports (m ∷ [])
-messages_report (messages.Refused why) = refuses why
+abbrev pub in_order : RadioMessages → List Message
+in_order (messages.Two m n) = m ∷ n ∷ []
+in_order (messages.One m) = m ∷ []
+
+abbrev pub messages_report : Result RadioMessages Refusal → Report Message
+messages_report (Ok ms) = reports (in_order ms)
+messages_report (Err why) = refuses why
 
 -- the messages that a command means, in a list
 abbrev pub messages_of : RadioCommand → List Message
-messages_of k = (messages_report (messages_meant k)).values
+messages_of k = in_order (messages_meant k)

@@ -1,5 +1,5 @@
 -- What holds of radio bytes as a whole (01, 'Radio bytes'), said of the definitions in the contracts of `write`, `read` and `messages`.
-use Rattle.std.specs.Prelude.{◌≡◌, true, ℕ, ◌+◌, ◌-◌, ◌^◌, ◌<◌, eqb, length, get_or}
+use Rattle.std.specs.Prelude.{◌≡◌, true, ℕ, ◌+◌, ◌-◌, ◌^◌, ◌<◌, eqb, length, get_or, Ok}
 use mathlib.Core.List.{List, [], ◌∷◌, Memᴰ}
 use Rattle.std.specs.Int.Bits.{bit_xor}
 use Rattle.ground.specs.Choice.{pick}
@@ -10,7 +10,6 @@ use Rattle.radio.specs.Codes.{nibble_of, digit, Place, b's, c's, its, unit_bits,
 use Rattle.radio.specs.Answers.{write_causes, write_answer, write_report, read_causes, read_answer, read_report, messages_causes, messages_answer, messages_report}
 use Rattle.radio.specs.declared.RadioCommand.{RadioCommand}
 use Rattle.radio.specs.declared.RadioCommand.TheVariants.{On, Off}
-use Rattle.radio.specs.declared.RadioRead.TheVariants as read
 
 -- No four bits stand for two houses: "each shown to be one-to-one".
 abbrev pub NibblesOneToOne : Type 0
@@ -31,11 +30,11 @@ pub record Exactly544 : Type 0 where
 -- read as that command.
 abbrev pub ReadOfWritten : Type 0
 ReadOfWritten = (k : RadioCommand) → command_ok k ≡ true
-    → (write_report (write_answer k) ≡ reports (four_bytes k)) × (read_answer (four_bytes k) ≡ read.Command k)
+    → (write_report (write_answer k) ≡ reports (four_bytes k)) × (read_answer (four_bytes k) ≡ Ok k)
 
 -- Writing what was read gives the four bytes back: where the reader gives a command for bytes, the writer gives them for it.
 abbrev pub WrittenOfRead : Type 0
-WrittenOfRead = (k : RadioCommand) (code : List ℕ) → read_answer code ≡ read.Command k → write_report (write_answer k) ≡ reports code
+WrittenOfRead = (k : RadioCommand) (code : List ℕ) → read_answer code ≡ Ok k → write_report (write_answer k) ≡ reports code
 
 -- ---- the unit's bits (02, A4)
 
@@ -47,7 +46,7 @@ pub data OnOrOff : (ℕ → ℕ → RadioCommand) → Type 0 where
 -- "work the unit from its bits by 01's rule": four bytes that are read as on or off have the unit that the bits of b and c tell.
 abbrev pub UnitByItsBits : Type 0
 UnitByItsBits = (switch : ℕ → ℕ → RadioCommand) → OnOrOff switch → (h u b x c y : ℕ)
-    → read_answer (b ∷ x ∷ c ∷ y ∷ []) ≡ read.Command (switch h u) → u ≡ unit_from b c
+    → read_answer (b ∷ x ∷ c ∷ y ∷ []) ≡ Ok (switch h u) → u ≡ unit_from b c
 
 -- a number with its bit of a weight turned: more by the weight where the bit was 0, less by it where the bit was 1
 abbrev pub turned : ℕ → ℕ → ℕ
@@ -66,8 +65,8 @@ turned_at (c's i) b x c y = b ∷ x ∷ turned (2 ^ i) c ∷ turned (2 ^ i) y �
 -- that bit's weight": the turned bytes are read as that command, and written for it.
 abbrev pub TurnedUnitBit : Type 0
 TurnedUnitBit = (switch : ℕ → ℕ → RadioCommand) → OnOrOff switch → (w : ℕ) (p : Place) → Memᴰ (its w p) unit_bits → (h u b x c y : ℕ)
-    → read_answer (b ∷ x ∷ c ∷ y ∷ []) ≡ read.Command (switch h u)
-    → (read_answer (turned_at p b x c y) ≡ read.Command (switch h (turned w u)))
+    → read_answer (b ∷ x ∷ c ∷ y ∷ []) ≡ Ok (switch h u)
+    → (read_answer (turned_at p b x c y) ≡ Ok (switch h (turned w u)))
     × (write_report (write_answer (switch h (turned w u))) ≡ reports (turned_at p b x c y))
 
 -- ---- messages, and the lowest number

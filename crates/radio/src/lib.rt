@@ -22,30 +22,11 @@ pub enum RadioCommand {
     Dim { house: u8 },
 }
 
-// What the writer answers.
-#[derive(Clone, Copy)]
-pub enum RadioBytes {
-    // The four bytes, in the order in which they are sent.
-    Bytes(u8, u8, u8, u8),
-    // A house or unit above 15.
-    Refused(Refusal),
-}
-
-// What the reader answers.
-#[derive(Clone, Copy)]
-pub enum RadioRead {
-    Command(RadioCommand),
-    // Not four bytes, a pair that is not complementary, or bytes that no command has.
-    Refused(Refusal),
-}
-
 // The messages that a command means, in order.
 #[derive(Clone, Copy)]
 pub enum RadioMessages {
     Two(Message, Message),
     One(Message),
-    // A house or unit above 15.
-    Refused(Refusal),
 }
 
 // The high four bits of b for each house.
@@ -72,10 +53,9 @@ fn valid(command: RadioCommand) -> bool
     ensures { result ≡ command_ok command }
 {
     match command {
-        RadioCommand::On { house, unit } => (house <= 15) & (unit <= 15),
-        RadioCommand::Off { house, unit } => (house <= 15) & (unit <= 15),
-        RadioCommand::Bright { house } => house <= 15,
-        RadioCommand::Dim { house } => house <= 15,
+        RadioCommand::On { house, unit } | RadioCommand::Off { house, unit } => (house <= 15)
+            & (unit <= 15),
+        RadioCommand::Bright { house } | RadioCommand::Dim { house } => house <= 15,
     }
 }
 
@@ -97,10 +77,10 @@ fn byte_b(command: RadioCommand) -> u8
     ensures { result ≡ byte_b command }
 {
     match command {
-        RadioCommand::On { house, unit } => house_and_eight(house, unit),
-        RadioCommand::Off { house, unit } => house_and_eight(house, unit),
-        RadioCommand::Bright { house } => house_and_eight(house, 0),
-        RadioCommand::Dim { house } => house_and_eight(house, 0),
+        RadioCommand::On { house, unit } | RadioCommand::Off { house, unit } => house_and_eight(
+            house, unit,
+        ),
+        RadioCommand::Bright { house } | RadioCommand::Dim { house } => house_and_eight(house, 0),
     }
 }
 
@@ -108,24 +88,24 @@ fn byte_c(command: RadioCommand) -> u8
     ensures { result ≡ byte_c command }
 {
     match command {
-        RadioCommand::On { house: _, unit } => four_two_one(unit),
-        RadioCommand::Off { house: _, unit } => four_two_one(unit) + 32,
-        RadioCommand::Bright { house: _ } => 136,
-        RadioCommand::Dim { house: _ } => 152,
+        RadioCommand::On { unit, .. } => four_two_one(unit),
+        RadioCommand::Off { unit, .. } => four_two_one(unit) + 32,
+        RadioCommand::Bright { .. } => 136,
+        RadioCommand::Dim { .. } => 152,
     }
 }
 
 // The four bytes of a command: b, its complement, c, its complement. Refuses a house or unit above 15.
-pub fn write(command: RadioCommand) -> RadioBytes
+pub fn write(command: RadioCommand) -> Result<[u8; 4], Refusal>
     ensures answer { result ≡ write_answer command }
     ensures report { write_report result ≡ judged (write_causes command) (reports (four_bytes command)) refuses }
 {
     if !valid(command) {
-        return RadioBytes::Refused(Refusal::Message);
+        return Err(Refusal::Message);
     }
     let b = byte_b(command);
     let c = byte_c(command);
-    RadioBytes::Bytes(b, 255 - b, c, 255 - c)
+    Ok([b, 255 - b, c, 255 - c])
 }
 
 // Whether b and c are those of an on or off: bits 3, 1 and 0 of b, whose mask is 11, and bits 7, 2, 1 and 0 of c are 0.
@@ -169,50 +149,44 @@ fn switch_of(house: u8, b: u8, c: u8) -> RadioCommand
 {
     let unit = unit_from(b, c);
     if bit_at(c, 5) == 0 {
-        RadioCommand::On {
-            house: house,
-            unit: unit,
-        }
+        RadioCommand::On { house, unit }
     } else {
-        RadioCommand::Off {
-            house: house,
-            unit: unit,
-        }
+        RadioCommand::Off { house, unit }
     }
 }
 
 // The command that b and c name. Refuses b and c that no command has. One call of house_of_nibble for all of them keeps read small
 // enough to be inlined.
-fn command_of(b: u8, c: u8) -> RadioRead
+fn command_of(b: u8, c: u8) -> Result<RadioCommand, Refusal>
     ensures { result ≡ named_answer (code_from b c) }
 {
     let house = house_of_nibble(b / 16);
     if is_switch(b, c) {
-        return RadioRead::Command(switch_of(house, b, c));
+        return Ok(switch_of(house, b, c));
     }
     if !is_step(b, c) {
-        return RadioRead::Refused(Refusal::Code);
+        return Err(Refusal::Code);
     }
     // Here c is 136 or 152.
     if c == 136 {
-        return RadioRead::Command(RadioCommand::Bright { house: house });
+        return Ok(RadioCommand::Bright { house });
     }
-    RadioRead::Command(RadioCommand::Dim { house: house })
+    Ok(RadioCommand::Dim { house })
 }
 
 // The command that four bytes name. Refuses what are not four bytes, then pairs that are not complementary, then bytes that no
 // command has.
-pub fn read(code: &[u8]) -> RadioRead
+pub fn read(code: &[u8]) -> Result<RadioCommand, Refusal>
     ensures answer { result ≡ read_answer code.now }
     ensures report { read_report result ≡ judged (read_causes code.now) (reports (command_of code.now ∷ [])) refuses }
 {
     if code.len() != 4 {
-        return RadioRead::Refused(Refusal::RfLength);
+        return Err(Refusal::RfLength);
     }
     let b = code[0];
     let c = code[2];
     if (code[1] != 255 - b) | (code[3] != 255 - c) {
-        return RadioRead::Refused(Refusal::Complement);
+        return Err(Refusal::Complement);
     }
     command_of(b, c)
 }
@@ -222,14 +196,8 @@ fn addressed(house: u8, unit: u8, function: Function) -> RadioMessages
     ensures { result ≡ address_then house unit function }
 {
     RadioMessages::Two(
-        Message::Address {
-            house: house,
-            unit: unit,
-        },
-        Message::Function {
-            house: house,
-            function: function,
-        },
+        Message::Address { house, unit },
+        Message::Function { house, function },
     )
 }
 
@@ -241,23 +209,23 @@ fn messages_meant(command: RadioCommand) -> RadioMessages
         RadioCommand::On { house, unit } => addressed(house, unit, Function::On),
         RadioCommand::Off { house, unit } => addressed(house, unit, Function::Off),
         RadioCommand::Bright { house } => RadioMessages::One(Message::Function {
-            house: house,
+            house,
             function: Function::Bright,
         }),
         RadioCommand::Dim { house } => RadioMessages::One(Message::Function {
-            house: house,
+            house,
             function: Function::Dim,
         }),
     }
 }
 
 // What a command means, as messages on the mains. Refuses a house or unit above 15.
-pub fn messages(command: RadioCommand) -> RadioMessages
+pub fn messages(command: RadioCommand) -> Result<RadioMessages, Refusal>
     ensures answer { result ≡ messages_answer command }
     ensures report { messages_report result ≡ judged (messages_causes command) (reports (messages_of command)) refuses }
 {
     if !valid(command) {
-        return RadioMessages::Refused(Refusal::Message);
+        return Err(Refusal::Message);
     }
-    messages_meant(command)
+    Ok(messages_meant(command))
 }

@@ -9,15 +9,14 @@
 
 ghost use Rattle.std.specs.Prelude.{◌+◌, ◌≤◌, ◌<◌, length};
 
-use radio::{RadioBytes, RadioCommand, RadioRead};
+use listing::{find, past, read_front};
+use radio::RadioCommand;
 use std::fs::File;
-use std::io::{Read, Result};
+use std::io;
+use std::io::{Result, Write};
 use text::{ROOM, Text, front, letter, place};
 
 const ROWS: usize = 544;
-
-// The descriptor of standard output.
-const STDOUT: i32 = 1;
 
 // The command of a row: on and off for each unit of a house, bright and dim.
 fn command_at(row: usize) -> RadioCommand
@@ -26,47 +25,33 @@ fn command_at(row: usize) -> RadioCommand
     let house = (row / 34) as u8;
     let rest = (row % 34) as u8;
     if rest == 32 {
-        return RadioCommand::Bright { house: house };
+        return RadioCommand::Bright { house };
     }
     if rest == 33 {
-        return RadioCommand::Dim { house: house };
+        return RadioCommand::Dim { house };
     }
     let unit = rest / 2;
     if rest % 2 == 0 {
-        RadioCommand::On {
-            house: house,
-            unit: unit,
-        }
+        RadioCommand::On { house, unit }
     } else {
-        RadioCommand::Off {
-            house: house,
-            unit: unit,
-        }
+        RadioCommand::Off { house, unit }
     }
 }
 
 // The row with a byte more. One that is full takes no more; the longest, of bright, has 30 bytes.
-fn put(row: Text, byte: u8) -> Text {
-    let at = row.length;
-    let mut bytes = row.bytes;
-    if at < ROOM {
-        bytes[at] = byte;
-        Text {
-            bytes: bytes,
-            length: at + 1,
-        }
-    } else {
-        row
+fn put(mut row: Text, byte: u8) -> Text {
+    if row.length < ROOM {
+        row.bytes[row.length] = byte;
+        row.length += 1;
     }
+    row
 }
 
 // A space and a word.
 fn put_word(row: Text, word: &[u8]) -> Text {
     let mut r = put(row, b' ');
-    let mut i = 0;
-    while i < word.len() {
-        r = put(r, word[i]);
-        i += 1;
+    for &byte in word {
+        r = put(r, byte);
     }
     r
 }
@@ -74,14 +59,10 @@ fn put_word(row: Text, word: &[u8]) -> Text {
 // A tab, and a byte in eight binary digits.
 fn put_bits(row: Text, byte: u8) -> Text {
     let mut r = put(row, b'\t');
-    r = put(r, b'0' + byte / 128);
-    r = put(r, b'0' + byte / 64 % 2);
-    r = put(r, b'0' + byte / 32 % 2);
-    r = put(r, b'0' + byte / 16 % 2);
-    r = put(r, b'0' + byte / 8 % 2);
-    r = put(r, b'0' + byte / 4 % 2);
-    r = put(r, b'0' + byte / 2 % 2);
-    put(r, b'0' + byte % 2)
+    for bit in (0..u8::BITS).rev() {
+        r = put(r, b'0' + (byte >> bit) % 2);
+    }
+    r
 }
 
 // A house by its letter, at a row's front.
@@ -111,40 +92,17 @@ fn put_refused() -> Text {
 // The row of four bytes: the command that they are read as, b and c.
 fn put_read(code: [u8; 4]) -> Text {
     match radio::read(&code) {
-        RadioRead::Command(k) => put_bits(put_bits(put_command(k), code[0]), code[2]),
-        RadioRead::Refused(_) => put_refused(),
+        Ok(k) => put_bits(put_bits(put_command(k), code[0]), code[2]),
+        Err(_) => put_refused(),
     }
 }
 
 // A row as 01's rule has it: the bytes that the writer gives for a command, read back.
 fn put_row(command: RadioCommand) -> Text {
     match radio::write(command) {
-        RadioBytes::Bytes(b, x, c, y) => put_read([b, x, c, y]),
-        RadioBytes::Refused(_) => put_refused(),
+        Ok(code) => put_read(code),
+        Err(_) => put_refused(),
     }
-}
-
-// The place of the first such byte of a text from a place on; the text's end where there is none.
-fn find(text: &[u8], from: usize, byte: u8) -> usize
-    requires { from ≤ length text.now }
-    ensures { (from ≤ result) × (result ≤ length text.now) }
-{
-    let mut i = from;
-    while i < text.len() {
-        if text[i] == byte {
-            return i;
-        }
-        i += 1;
-    }
-    i
-}
-
-// The place after a place, within a text.
-fn past(text: &[u8], at: usize) -> usize
-    requires { at ≤ length text.now }
-    ensures { result ≤ length text.now }
-{
-    if at < text.len() { at + 1 } else { at }
 }
 
 // Where the first three fields of a line end: at its third tab, or at its end.
@@ -167,30 +125,30 @@ enum Verdict {
     WrongMark,
 }
 
-// Prints a row that differs.
-fn report(row: usize, printed: &[u8], rule: &[u8]) {
-    io::print_decimal(STDOUT, row as u64);
-    io::write_all(STDOUT, b"\tlisting\t");
-    io::write_all(STDOUT, printed);
-    io::write_all(STDOUT, b"\trule\t");
-    io::write_all(STDOUT, rule);
-    io::write_all(STDOUT, b"\n");
+// Prints a row that differs. Here and below, a write that fails is passed over.
+fn report(rt: &impl Print, row: usize, printed: &[u8], rule: &[u8]) {
+    let mut out = io::writer(rt);
+    let _ = write!(out, "{row}\tlisting\t");
+    let _ = out.write_all(printed);
+    let _ = write!(out, "\trule\t");
+    let _ = out.write_all(rule);
+    let _ = writeln!(out);
 }
 
 // Judges a line of the listing by the row of the rule, and prints it where it differs. Rows are numbered from 1.
-fn judge(number: usize, line: &[u8], rule: &[u8]) -> Verdict {
+fn judge(rt: &impl Print, number: usize, line: &[u8], rule: &[u8]) -> Verdict {
     let end = printed_end(line);
     let printed = front(line, end);
-    if check::same(printed, rule) {
+    if printed == rule {
         return if end < line.len() {
             Verdict::WrongMark
         } else {
             Verdict::Agrees
         };
     }
-    report(number, printed, rule);
+    report(rt, number, printed, rule);
     let mark = past(line, end);
-    if check::same(&line[mark..], rule) {
+    if &line[mark..] == rule {
         Verdict::Differs
     } else {
         Verdict::WrongMark
@@ -198,100 +156,62 @@ fn judge(number: usize, line: &[u8], rule: &[u8]) -> Verdict {
 }
 
 // Judges the line of the row with this number from 0 on.
-fn judge_row(number: usize, line: &[u8]) -> Verdict
+fn judge_row(rt: &impl Print, number: usize, line: &[u8]) -> Verdict
     requires { number < 544 }
 {
     let row = put_row(command_at(number));
-    let bytes = row.bytes;
-    judge(number + 1, line, front(&bytes, row.length))
+    judge(rt, number + 1, line, front(&row.bytes, row.length))
 }
 
 // How many rows had each verdict.
-#[derive(Clone, Copy)]
+#[derive(Clone, Copy, Default)]
 struct Totals {
     agree: u64,
     differ: u64,
     wrong: u64,
 }
 
-fn counted(t: Totals, v: Verdict) -> Totals
+// The totals with a row more.
+fn counted(mut t: Totals, v: Verdict) -> Totals
     requires { (t.agree < 544) × (t.differ < 544) × (t.wrong < 544) }
     ensures { (result.agree ≤ t.agree + 1) × (result.differ ≤ t.differ + 1) × (result.wrong ≤ t.wrong + 1) }
 {
     match v {
-        Verdict::Agrees => Totals {
-            agree: t.agree + 1,
-            differ: t.differ,
-            wrong: t.wrong,
-        },
-        Verdict::Differs => Totals {
-            agree: t.agree,
-            differ: t.differ + 1,
-            wrong: t.wrong,
-        },
-        Verdict::WrongMark => Totals {
-            agree: t.agree,
-            differ: t.differ,
-            wrong: t.wrong + 1,
-        },
+        Verdict::Agrees => t.agree += 1,
+        Verdict::Differs => t.differ += 1,
+        Verdict::WrongMark => t.wrong += 1,
     }
+    t
 }
 
-fn print_total(n: u64, what: &[u8]) {
-    io::print_decimal(STDOUT, n);
-    io::write_all(STDOUT, what);
-}
-
-fn print_totals(totals: Totals, rest: usize) {
-    print_total(totals.agree, b" rows agree with the rule\n");
-    print_total(
-        totals.differ,
-        b" rows differ and are marked with what the rule says\n",
-    );
-    print_total(totals.wrong, b" rows are marked wrongly\n");
-    print_total(rest as u64, b" bytes follow the last row\n");
+fn print_totals(rt: &impl Print, totals: Totals, rest: usize) {
+    let _ = println!(rt; "{} rows agree with the rule", totals.agree);
+    let differ = totals.differ;
+    let _ = println!(rt; "{differ} rows differ and are marked with what the rule says");
+    let _ = println!(rt; "{} rows are marked wrongly", totals.wrong);
+    let _ = println!(rt; "{rest} bytes follow the last row");
 }
 
 // Judges the listing, a line for each row, and prints the totals.
-fn judge_all(text: &[u8]) {
-    let mut totals = Totals {
-        agree: 0,
-        differ: 0,
-        wrong: 0,
-    };
+fn judge_all(rt: &impl Print, text: &[u8]) {
+    let mut totals = Totals::default();
     let mut at = 0;
-    let mut number = 0;
-    while number < ROWS {
+    for number in 0..ROWS {
         let end = find(text, at, b'\n');
-        totals = counted(totals, judge_row(number, &text[at..end]));
+        totals = counted(totals, judge_row(rt, number, &text[at..end]));
         at = past(text, end);
-        number += 1;
     }
-    print_totals(totals, text.len() - at);
-}
-
-// Reads to the end of a file, a read that fails or the end of the buffer, and answers how many bytes came.
-fn read_front<R: Read>(from: &mut R, text: &mut [u8]) -> usize
-    ensures { result ≤ length text.new }
-{
-    let mut done = 0;
-    while done < text.len() {
-        match from.read(&mut text[done..]) {
-            Ok(0) => return done,
-            Ok(n) => done += n,
-            Err(_) => return done,
-        }
-    }
-    done
+    print_totals(rt, totals, text.len() - at);
 }
 
 fn main(rt: HostRuntime) -> Result<()> {
     let path = "listing.tsv";
     match File::open(&rt, path) {
         Ok(mut file) => {
-            let mut text = io::large_buffer();
+            // more than the listing has
+            let mut text = [0; 65536];
             let n = read_front(&mut file, &mut text);
-            judge_all(&text[..n]);
+            judge_all(&rt, &text[..n]);
             Ok(())
         }
         Err(why) => eprintln!(rt; "{path}: {why}"),

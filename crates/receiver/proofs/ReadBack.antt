@@ -5,6 +5,7 @@
 --     held_valid, held_length, run_valid       bytes that hold a receiver are thirteen, it is valid, and so after any half-cycles
 --     events_read_back                         EventsReadBack
 --     two_parts                                TwoParts
+use Rattle.std.specs.Prelude.{Result, Ok, Err, Option, Some, None}
 use mathlib.Core.Logic.{⊎_elim}
 use mathlib.Core.Path.{◌≡◌, refl, sym, ap, ap₂, ◌∙◌}
 use mathlib.Core.Bool.{Bool, true, false, false≢true, ◌&&◌, ◌||◌, and-eq-true_iff}
@@ -17,6 +18,7 @@ use lib.Dec.{eqb, leb}
 use lib.ListN.{length, get_or, drop}
 use Rattle.ground.specs.Choice.{pick}
 use Rattle.ground.specs.Refusals.{judged, number_given}
+use Rattle.ground.specs.declared.Refusal.{Refusal}
 use Rattle.ground.specs.declared.Refusal.TheVariants as refusal
 use Rattle.message.specs.Messages.{message_ok}
 use Rattle.message.specs.declared.Message.{Message}
@@ -24,23 +26,15 @@ use Rattle.message.specs.declared.Message.TheVariants as m
 use Rattle.receiver.specs.Receivers.{fresh_receiver, near, far, waiting_ok, given_ok, receiver_ok}
 use Rattle.receiver.specs.Receivers.{event_number, step_of, equal_pair, unsupported_code, broken_number}
 use Rattle.receiver.specs.Hearing.{events_of, receiver_after}
-use Rattle.receiver.specs.declared.Given.{Given}
-use Rattle.receiver.specs.declared.Given.TheVariants.{No, Yes}
 use Rattle.receiver.specs.declared.Receiver.{Receiver}
 use Rattle.receiver.specs.declared.Event.{Event}
 use Rattle.receiver.specs.declared.Event.TheVariants.{Nothing, Message as Gives, Repeat, BrokenPair, BrokenUnsupported, Refused as Stays}
 use Rattle.receiver.proofs.ReceiverLaws.{place_ok, valid_parts, place_waits, waits_range, fresh_is_valid, stays_valid, gives_valid, step_number}
-use Rattle.wire.specs.Messages.{message_in}
-use Rattle.receiver.specs.Bytes.{frame_byte, since_byte, target_byte, place_from, given_from, from_four, taken_receiver, receiver_with, receiver_in, is_receiver}
+use Rattle.wire.specs.Messages.{message_in, kept_from}
+use Rattle.receiver.specs.Bytes.{frame_byte, since_byte, target_byte, place_from, from_four, taken_receiver, receiver_with, receiver_in, is_receiver}
 use Rattle.receiver.specs.Bytes.{holds_receiver, receiver_bytes, held_causes, receiver_report, put_after, fresh_after}
 use Rattle.receiver.specs.Bytes.{event_code, event_bytes, events_by, events_heard, bytes_by}
 use Rattle.receiver.specs.Bytes.{bytes_after, ReceiversReadBack, PlacesReadBack, StaysReceiver, EventsReadBack, TwoParts}
-use Rattle.wire.specs.declared.MessageRead.{MessageRead}
-use Rattle.wire.specs.declared.MessageRead.TheVariants.{Message as Says, Refused as NoMessage}
-use Rattle.receiver.specs.declared.lent.GivenRead.{GivenRead}
-use Rattle.receiver.specs.declared.lent.GivenRead.TheVariants.{Given as Was, Refused as NoGiven}
-use Rattle.receiver.specs.declared.lent.ReceiverRead.{ReceiverRead}
-use Rattle.receiver.specs.declared.lent.ReceiverRead.TheVariants.{Receiver as Is, Refused as NoReceiver}
 use Rattle.wire.proofs.MessageLaws.{messages_read_back, kept_read_back}
 
 -- ---- a receiver
@@ -117,80 +111,93 @@ module _ (frame since target : ℕ) where
 pub places_read_back : PlacesReadBack
 places_read_back = record { place_of-bytes = place_read_back; bytes_of-place = bytes_back }
 
-taken_valid : (r : Receiver) → receiver_ok r ≡ true → taken_receiver r ≡ Is r
+taken_valid : (r : Receiver) → receiver_ok r ≡ true → taken_receiver r ≡ Ok r
 unfolding taken_receiver judged
 taken_valid r ok = rw ok
 
 pub receivers_read_back : ReceiversReadBack
-unfolding receiver_in receiver_bytes given_from judged
+unfolding receiver_in receiver_bytes judged
 receivers_read_back r ok = go r.given ok (valid_parts r ok).1
   where
-    made : ℕ → ℕ → Given → Receiver
+    made : ℕ → ℕ → Option Message → Receiver
     made a n g = record { past = r.past; at = a; bits = n; given = g }
 
-    held : Given → Receiver
+    held : Option Message → Receiver
     held g = made r.at r.bits g
 
-    same : (g : Given) → receiver_ok (held g) ≡ true
+    same : (g : Option Message) → receiver_ok (held g) ≡ true
         → taken_receiver (made (place_from (frame_byte r.at) (since_byte r.at) (target_byte r.at))
         (from_four (r.bits / 2 ^ 24) (r.bits / 2 ^ 16 % 256) (r.bits / 2 ^ 8 % 256) (r.bits % 256)) g)
-        ≡ Is (held g)
+        ≡ Ok (held g)
     same g t =
         ap₂ (λ (a n : ℕ). taken_receiver (made a n g)) (place_read_back r.at r.bits (valid_parts r ok).0) (four_read_back r.bits)
         ∙ taken_valid (held g) t
 
-    go : (g : Given) → receiver_ok (held g) ≡ true → given_ok g ≡ true → receiver_in (receiver_bytes (held g)) ≡ Is (held g)
-    go No t v = rw kept_read_back.none (same No t)
-    go (Yes (m.Address h u)) t v = rw (kept_read_back.message (m.Address h u) v) (same (Yes (m.Address h u)) t)
-    go (Yes (m.Function h f)) t v = rw (kept_read_back.message (m.Function h f) v) (same (Yes (m.Function h f)) t)
-    go (Yes (m.Extended h u d c)) t v = rw (kept_read_back.message (m.Extended h u d c) v) (same (Yes (m.Extended h u d c)) t)
+    go : (g : Option Message) → receiver_ok (held g) ≡ true → given_ok g ≡ true → receiver_in (receiver_bytes (held g)) ≡ Ok (held g)
+    go None t v = rw kept_read_back.none (same None t)
+    go (Some (m.Address h u)) t v = rw (kept_read_back.message (m.Address h u) v) (same (Some (m.Address h u)) t)
+    go (Some (m.Function h f)) t v = rw (kept_read_back.message (m.Function h f) v) (same (Some (m.Function h f)) t)
+    go (Some (m.Extended h u d c)) t v = rw (kept_read_back.message (m.Extended h u d c) v) (same (Some (m.Extended h u d c)) t)
 
 -- ---- bytes that hold a receiver
 
-taken_back : (q r : Receiver) → taken_receiver q ≡ Is r → receiver_ok r ≡ true
+taken_back : (q r : Receiver) → taken_receiver q ≡ Ok r → receiver_ok r ≡ true
 unfolding taken_receiver judged
 taken_back q r e = go (receiver_ok q) refl e
   where
-    go : (b : Bool) → receiver_ok q ≡ b → pick b (Is q) (NoReceiver refusal.State) ≡ Is r → receiver_ok r ≡ true
+    go : (b : Bool) → receiver_ok q ≡ b → pick b (Ok q) (Err refusal.State) ≡ Ok r → receiver_ok r ≡ true
     go true t e' = let same : q ≡ r = cc in ap receiver_ok (sym same) ∙ t
     go false t e' = cc
 
-pub held_valid : (s : List ℕ) (r : Receiver) → receiver_in s ≡ Is r → receiver_ok r ≡ true
+pub held_valid : (s : List ℕ) (r : Receiver) → receiver_in s ≡ Ok r → receiver_ok r ≡ true
 unfolding receiver_in judged
-held_valid s r e = whole (eqb (length s) 13) (given_from (get_or s 6 0) (get_or s 7 0) (get_or s 8 0) (get_or s 9 0) (get_or s 10 0)) e
+held_valid s r e = whole (eqb (length s) 13) (kept_from (get_or s 6 0) (get_or s 7 0) (get_or s 8 0) (get_or s 9 0) (get_or s 10 0)) e
   where
-    whole : (b : Bool) (g : GivenRead) → pick b (receiver_with s g) (NoReceiver refusal.State) ≡ Is r → receiver_ok r ≡ true
-    whole true (Was g) e' = taken_back _ r e'
-    whole true (NoGiven why) e' = cc
+    whole : (b : Bool) (g : Result (Option Message) Refusal) → pick b (receiver_with s g) (Err refusal.State) ≡ Ok r → receiver_ok r ≡ true
+    whole true (Ok g) e' = taken_back _ r e'
+    whole true (Err why) e' = cc
     whole false g e' = cc
 
 -- bytes that hold none are refused by 6
-pub held_number : (s : List ℕ) {o : ReceiverRead} → o ≡ receiver_in s
+pub held_refused : (s : List ℕ) {why : Refusal} → receiver_in s ≡ Err why → why ≡ refusal.State
+unfolding receiver_in taken_receiver judged
+held_refused s {why} e = whole (eqb (length s) 13) (kept_from (get_or s 6 0) (get_or s 7 0) (get_or s 8 0) (get_or s 9 0) (get_or s 10 0)) e
+  where
+    valid : (q : Receiver) (b : Bool) → pick b (Ok q) (Err refusal.State) ≡ Err why → why ≡ refusal.State
+    valid q true e' = cc
+    valid q false e' = cc
+
+    whole : (b : Bool) (g : Result (Option Message) Refusal) → pick b (receiver_with s g) (Err refusal.State) ≡ Err why → why ≡ refusal.State
+    whole true (Ok g) e' = valid _ (receiver_ok _) e'
+    whole true (Err x) e' = cc
+    whole false g e' = cc
+
+pub held_number : (s : List ℕ) {o : Result Receiver Refusal} → o ≡ receiver_in s
     → (o ≡ receiver_in s) × ((receiver_report o).number ≡ number_given (held_causes s))
 unfolding receiver_in taken_receiver judged
 held_number s e = (
   e,
-  ap (λ (x : ReceiverRead). (receiver_report x).number) e
-      ∙ whole (eqb (length s) 13) (given_from (get_or s 6 0) (get_or s 7 0) (get_or s 8 0) (get_or s 9 0) (get_or s 10 0)),
+  ap (λ (x : Result Receiver Refusal). (receiver_report x).number) e
+      ∙ whole (eqb (length s) 13) (kept_from (get_or s 6 0) (get_or s 7 0) (get_or s 8 0) (get_or s 9 0) (get_or s 10 0)),
 )
   where
-    number : ReceiverRead → Type 0
+    number : Result Receiver Refusal → Type 0
     number x = (receiver_report x).number ≡ pick (is_receiver x) 0 6
 
-    valid : (q : Receiver) (b : Bool) → number (pick b (Is q) (NoReceiver refusal.State))
+    valid : (q : Receiver) (b : Bool) → number (pick b (Ok q) (Err refusal.State))
     valid q true = refl
     valid q false = refl
 
-    whole : (b : Bool) (g : GivenRead) → number (pick b (receiver_with s g) (NoReceiver refusal.State))
-    whole true (Was g) = valid _ (receiver_ok _)
-    whole true (NoGiven why) = refl
+    whole : (b : Bool) (g : Result (Option Message) Refusal) → number (pick b (receiver_with s g) (Err refusal.State))
+    whole true (Ok g) = valid _ (receiver_ok _)
+    whole true (Err why) = refl
     whole false g = refl
 
-pub held_length : (s : List ℕ) (r : Receiver) → receiver_in s ≡ Is r → length s ≡ 13
+pub held_length : (s : List ℕ) (r : Receiver) → receiver_in s ≡ Ok r → length s ≡ 13
 unfolding receiver_in judged
 held_length s r e = eqb-true (length s) 13 (go (eqb (length s) 13) _ e)
   where
-    go : (b : Bool) (x : ReceiverRead) → pick b x (NoReceiver refusal.State) ≡ Is r → b ≡ true
+    go : (b : Bool) (x : Result Receiver Refusal) → pick b x (Err refusal.State) ≡ Ok r → b ≡ true
     go true x e' = refl
     go false x e' = cc
 
@@ -200,19 +207,19 @@ run_valid r [] ok = ok
 run_valid r (h ∷ hs) ok = run_valid (step_of r h).next hs (stays_valid r h ok)
 
 -- what bytes hold after half-cycles
-run_back : (s xs : List ℕ) (r : Receiver) → receiver_in s ≡ Is r → receiver_in (receiver_bytes (receiver_after r xs)) ≡ Is (receiver_after r xs)
+run_back : (s xs : List ℕ) (r : Receiver) → receiver_in s ≡ Ok r → receiver_in (receiver_bytes (receiver_after r xs)) ≡ Ok (receiver_after r xs)
 run_back s xs r e = receivers_read_back (receiver_after r xs) (run_valid r xs (held_valid s r e))
 
 pub stays_receiver : StaysReceiver
 unfolding put_after judged bytes_after
 stays_receiver = record { fresh = begins; after = λ s hs t. goes s hs (receiver_in s) refl t }
   where
-    begins : (s : List ℕ) → length s ≡ 13 → receiver_in (fresh_after s) ≡ Is fresh_receiver
+    begins : (s : List ℕ) → length s ≡ 13 → receiver_in (fresh_after s) ≡ Ok fresh_receiver
     begins s thirteen = rw (eq-eqb (length s) 13 thirteen, fresh_is_valid) (receivers_read_back fresh_receiver fresh_is_valid)
 
-    goes : (s hs : List ℕ) (x : ReceiverRead) → receiver_in s ≡ x → is_receiver x ≡ true → holds_receiver (bytes_by x s hs) ≡ true
-    goes s hs (Is r) e t = ap is_receiver (run_back s hs r e)
-    goes s hs (NoReceiver why) e t = absurd (false≢true t)
+    goes : (s hs : List ℕ) (x : Result Receiver Refusal) → receiver_in s ≡ x → is_receiver x ≡ true → holds_receiver (bytes_by x s hs) ≡ true
+    goes s hs (Ok r) e t = ap is_receiver (run_back s hs r e)
+    goes s hs (Err why) e t = absurd (false≢true t)
 
 -- ---- an event
 
@@ -232,9 +239,9 @@ step_numbered r h = ap of_step (step_number r h) ∙ go (leb h 1) (receiver_ok r
     go false b p q = refl
 
 -- the event that six bytes say
-abbrev gives : MessageRead → Event
-gives (Says m) = Gives m
-gives (NoMessage why) = Nothing
+abbrev gives : Result Message Refusal → Event
+gives (Ok m) = Gives m
+gives (Err why) = Nothing
 
 abbrev plain : ℕ → Event
 plain n =
@@ -310,14 +317,14 @@ pub two_parts : TwoParts
 unfolding events_heard bytes_after
 two_parts = record { events = λ s xs ys. heard s xs ys (receiver_in s) refl; state = λ s xs ys. left s xs ys (receiver_in s) refl }
   where
-    heard : (s xs ys : List ℕ) (x : ReceiverRead) → receiver_in s ≡ x
+    heard : (s xs ys : List ℕ) (x : Result Receiver Refusal) → receiver_in s ≡ x
         → events_by x (xs ++ ys) ≡ events_by x xs ++ events_by (receiver_in (bytes_by x s xs)) ys
-    heard s xs ys (Is r) e = events_append r xs ys ∙ ap (λ (z : ReceiverRead). events_of r xs ++ events_by z ys) (sym (run_back s xs r e))
-    heard s xs ys (NoReceiver why) e = ap (λ (z : ReceiverRead). events_by z ys) (sym e)
+    heard s xs ys (Ok r) e = events_append r xs ys ∙ ap (λ (z : Result Receiver Refusal). events_of r xs ++ events_by z ys) (sym (run_back s xs r e))
+    heard s xs ys (Err why) e = ap (λ (z : Result Receiver Refusal). events_by z ys) (sym e)
 
-    left : (s xs ys : List ℕ) (x : ReceiverRead) → receiver_in s ≡ x
+    left : (s xs ys : List ℕ) (x : Result Receiver Refusal) → receiver_in s ≡ x
         → bytes_by x s (xs ++ ys) ≡ bytes_by (receiver_in (bytes_by x s xs)) (bytes_by x s xs) ys
-    left s xs ys (Is r) e =
+    left s xs ys (Ok r) e =
         ap receiver_bytes (after-append r xs ys)
-        ∙ ap (λ (z : ReceiverRead). bytes_by z (receiver_bytes (receiver_after r xs)) ys) (sym (run_back s xs r e))
-    left s xs ys (NoReceiver why) e = ap (λ (z : ReceiverRead). bytes_by z s ys) (sym e)
+        ∙ ap (λ (z : Result Receiver Refusal). bytes_by z (receiver_bytes (receiver_after r xs)) ys) (sym (run_back s xs r e))
+    left s xs ys (Err why) e = ap (λ (z : Result Receiver Refusal). bytes_by z s ys) (sym e)

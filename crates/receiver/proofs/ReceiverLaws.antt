@@ -12,6 +12,7 @@
 --     standard_ok, extended_ok           what they say is a valid message, if any
 --     begun_code                         only code 7 with function bit 1 begins a longer frame
 --     step_lowest, fresh_is_valid, stays_valid, gives_valid      StepLowest, FreshIsValid, StaysValid and GivesValid
+use Rattle.std.specs.Prelude.{Option, Some, None, Ok}
 use mathlib.Core.Logic.{◌≢◌, ◌⊎◌, inl, inr, ⊎_elim}
 use mathlib.Core.Path.{◌≡◌, refl, sym, ap, ◌∙◌}
 use mathlib.Core.Bool.{Bool, true, false, false≢true, ◌&&◌, ◌||◌, not, and-eq-true_iff, and-false, or-true}
@@ -31,11 +32,9 @@ use Rattle.message.specs.Messages.{message_ok}
 use Rattle.message.specs.Words.{function_reading, standard_of, extended_of, standard_answer, extended_answer}
 use Rattle.message.specs.declared.Message.{Message}
 use Rattle.message.specs.declared.word.Reading.{Reading}
-use Rattle.message.specs.declared.word.Reading.TheVariants.{Message as Says, Longer, Unsupported, Refused as NotRead}
+use Rattle.message.specs.declared.word.Reading.TheVariants.{Message as Says, Longer, Unsupported}
 use Rattle.message.proofs.Tables.{every_at}
 use Rattle.message.proofs.CodeLaws.{number_below}
-use Rattle.receiver.specs.declared.Given.{Given}
-use Rattle.receiver.specs.declared.Given.TheVariants.{No, Yes}
 use Rattle.receiver.specs.declared.Receiver.{Receiver}
 use Rattle.receiver.specs.declared.Event.{Event}
 use Rattle.receiver.specs.declared.Event.TheVariants.{Nothing, Message as Gives, Repeat, BrokenPair, BrokenUnsupported, Refused}
@@ -224,7 +223,6 @@ abbrev pub nine_ok : Bool → ℕ → Reading → Bool
 nine_ok b c (Says m) = message_ok m && not (b && ten_to_twelve c)
 nine_ok b c Longer = b && eqb c 7
 nine_ok b c Unsupported = b && ten_to_twelve c
-nine_ok b c (NotRead why) = false
 
 function_ok : (house c : ℕ) → leb house 15 ≡ true → c < 16 → nine_ok true c (function_reading house (meaning_of c)) ≡ true
 unfolding meaning_of meanings
@@ -240,11 +238,11 @@ nine_ok_lem w = go (ℕ_discrete (w % 2) 0)
 
 -- ---- the number of a call
 
-complete_number : (given : Given) (m : Message) (past : ℕ) → event_number (complete_of given m past).event ≡ 0
+complete_number : (given : Option Message) (m : Message) (past : ℕ) → event_number (complete_of given m past).event ≡ 0
 unfolding complete_of
 complete_number given m past = go (is_repeat given m)
   where
-    go : (b : Bool) → event_number (pick b (says Repeat (hunting past)) (says (Gives m) (record { past = past; at = 1; bits = 0; given = Yes m }))).event ≡ 0
+    go : (b : Bool) → event_number (pick b (says Repeat (hunting past)) (says (Gives m) (record { past = past; at = 1; bits = 0; given = Some m }))).event ≡ 0
     go true = refl
     go false = refl
 
@@ -258,7 +256,6 @@ outcome_number r bits past Longer b c t =
     let other : ten_to_twelve c ≡ false = ap ten_to_twelve seven in
     sym (rw (other, and-false b))
 outcome_number r bits past Unsupported b c t = sym (rw t)
-outcome_number r bits past (NotRead why) b c t = absurd (false≢true t)
 
 module _ (r : Receiver) (h : ℕ) where
   -- what stands for the number where the pair is complete and unequal
@@ -350,18 +347,18 @@ place_waits at bits t over = ⊎_elim (λ p. absurd (omega (arith, at_most at bi
 pub hunts_waits : (at bits : ℕ) → place_ok at bits ≡ true → is_hunting at ≡ true → Waits at
 hunts_waits at bits t h = ⊎_elim (λ z. inl z) (λ over. inr (place_waits at bits t over)) (hunts_range at h)
 
-valid_of : (past at bits : ℕ) (given : Given) → past ≤ 63 → pairs_ok at bits ≡ true → given_ok given ≡ true
+valid_of : (past at bits : ℕ) (given : Option Message) → past ≤ 63 → pairs_ok at bits ≡ true → given_ok given ≡ true
     → receiver_ok (record { past = past; at = at; bits = bits; given = given }) ≡ true
 unfolding receiver_ok
 valid_of past at bits given p q g = simp (le-leb past 63 p, q, g)
 
 pub valid_waiting : (past at : ℕ) → past ≤ 63 → Waits at → receiver_ok (waiting past at) ≡ true
 unfolding receiver_ok
-valid_waiting past at p (inl z) = valid_of past at 0 No p (low_pairs at 0 (omega arith)) refl
+valid_waiting past at p (inl z) = valid_of past at 0 None p (low_pairs at 0 (omega arith)) refl
 valid_waiting past at p (inr t) = simp (le-leb past 63 p, t, or-true (pairs_ok at 0))
 
 pub fresh_is_valid : FreshIsValid
-fresh_is_valid = valid_of 63 0 0 No (lit≤ tt) (low_pairs 0 0 (lit≤ tt)) refl
+fresh_is_valid = valid_of 63 0 0 None (lit≤ tt) (low_pairs 0 0 (lit≤ tt)) refl
 
 -- ---- a complete frame's bits are not refused
 
@@ -388,7 +385,7 @@ last_code r ok e =
 part : (w n j k : ℕ) → w % 2 ^ (n + j + k) / 2 ^ k % 2 ^ j ≡ w / 2 ^ k % 2 ^ j
 part w n j k = ap (λ (x : ℕ). x % 2 ^ j) (field w (n + j) k) ∙ mod-mod-pow (w / 2 ^ k) n j
 
-pub read_nine : (w : ℕ) → standard_answer (w % 512) ≡ standard_of w
+pub read_nine : (w : ℕ) → standard_answer (w % 512) ≡ Ok (standard_of w)
 unfolding standard_answer judged standard_of
 read_nine w =
     let low : w % 512 < 2 ^ 9 = omega arith in
@@ -397,7 +394,7 @@ read_nine w =
     let house : w % 512 / 32 % 16 ≡ w / 32 % 16 = part w 0 4 5 in
     rw (lt-ltb (w % 512) (2 ^ 9) low, bit, code, house)
 
-pub read_all : (w : ℕ) → w / 2 ^ 20 % 32 ≡ 15 → extended_answer (w % 536870912) ≡ Says (extended_of w)
+pub read_all : (w : ℕ) → w / 2 ^ 20 % 32 ≡ 15 → extended_answer (w % 536870912) ≡ Ok (Says (extended_of w))
 unfolding extended_answer judged
 read_all w begun =
     let n = w % 536870912 in
@@ -425,13 +422,11 @@ abbrev pub reads_ok : Reading → Bool
 reads_ok (Says m) = message_ok m
 reads_ok Longer = true
 reads_ok Unsupported = true
-reads_ok (NotRead why) = true
 
 reads_ok_lem : (b : Bool) (c : ℕ) (x : Reading) → nine_ok b c x ≡ true → reads_ok x ≡ true
 reads_ok_lem b c (Says m) t = ((and-eq-true_iff (message_ok m) (not (b && ten_to_twelve c))).0 t).0
 reads_ok_lem b c Longer t = refl
 reads_ok_lem b c Unsupported t = refl
-reads_ok_lem b c (NotRead why) t = refl
 
 pub standard_ok : (w : ℕ) → reads_ok (standard_of w) ≡ true
 standard_ok w = reads_ok_lem (eqb (w % 2) 1) (w / 2 % 16) (standard_of w) (nine_ok_lem w)
@@ -440,11 +435,11 @@ pub extended_ok : (w : ℕ) → message_ok (extended_of w) ≡ true
 extended_ok w =
     simp (number_ok (w / 2 ^ 25), number_ok (w / 2 ^ 16), le-leb (w / 256 % 256) 255 (omega arith), le-leb (w % 256) 255 (omega arith))
 
-complete_gives : (given : Given) (m : Message) (past : ℕ) → message_ok m ≡ true → gives_ok (complete_of given m past).event ≡ true
+complete_gives : (given : Option Message) (m : Message) (past : ℕ) → message_ok m ≡ true → gives_ok (complete_of given m past).event ≡ true
 unfolding complete_of
 complete_gives given m past ok = go (is_repeat given m)
   where
-    go : (b : Bool) → gives_ok (pick b (says Repeat (hunting past)) (says (Gives m) (record { past = past; at = 1; bits = 0; given = Yes m }))).event ≡ true
+    go : (b : Bool) → gives_ok (pick b (says Repeat (hunting past)) (says (Gives m) (record { past = past; at = 1; bits = 0; given = Some m }))).event ≡ true
     go true = refl
     go false = ok
 
@@ -452,7 +447,6 @@ outcome_gives : (r : Receiver) (bits past : ℕ) (x : Reading) → reads_ok x �
 outcome_gives r bits past (Says m) ok = complete_gives r.given m past ok
 outcome_gives r bits past Longer ok = refl
 outcome_gives r bits past Unsupported ok = refl
-outcome_gives r bits past (NotRead why) ok = refl
 
 module _ (r : Receiver) (h : ℕ) where
   gives_taken : {o : Heard} → Taken r h o → gives_ok o.event ≡ true
@@ -480,20 +474,20 @@ gives_valid r h m e = ap gives_ok (sym e) ∙ step_gives r h
 
 -- ---- a valid receiver stays valid
 
-complete_stays : (given : Given) (m : Message) (past : ℕ) → past ≤ 63 → message_ok m ≡ true → receiver_ok (complete_of given m past).next ≡ true
+complete_stays : (given : Option Message) (m : Message) (past : ℕ) → past ≤ 63 → message_ok m ≡ true → receiver_ok (complete_of given m past).next ≡ true
 unfolding complete_of
 complete_stays given m past p ok = go (is_repeat given m)
   where
-    go : (b : Bool) → receiver_ok (pick b (says Repeat (hunting past)) (says (Gives m) (record { past = past; at = 1; bits = 0; given = Yes m }))).next ≡ true
-    go true = valid_of past 0 0 No p (low_pairs 0 0 (lit≤ tt)) refl
-    go false = valid_of past 1 0 (Yes m) p (low_pairs 1 0 (lit≤ tt)) ok
+    go : (b : Bool) → receiver_ok (pick b (says Repeat (hunting past)) (says (Gives m) (record { past = past; at = 1; bits = 0; given = Some m }))).next ≡ true
+    go true = valid_of past 0 0 None p (low_pairs 0 0 (lit≤ tt)) refl
+    go false = valid_of past 1 0 (Some m) p (low_pairs 1 0 (lit≤ tt)) ok
 
 hunt_stays : (past at h : ℕ) → Waits at → h ≤ 1 → receiver_ok (hunt_of past at h).next ≡ true
 unfolding hunt_of
 hunt_stays past at h w bit = go (start_hunted past h || start_waited past at h)
   where
     go : (b : Bool) → receiver_ok (pick b (started (shifted past h)) (waiting (shifted past h) (waits_on at))) ≡ true
-    go true = valid_of (shifted past h) 5 0 No (omega arith) (low_pairs 5 0 (lit≤ tt)) refl
+    go true = valid_of (shifted past h) 5 0 None (omega arith) (low_pairs 5 0 (lit≤ tt)) refl
     go false = valid_waiting (shifted past h) (waits_on at) (omega arith) (waits_next at w)
 
 -- only code 7 with function bit 1 begins an extended message
@@ -509,8 +503,7 @@ outcome_stays : (r : Receiver) (bits past : ℕ) (x : Reading) → receiver_ok r
     → (x ≡ Longer → pairs_ok (r.at + 1) bits ≡ true) → receiver_ok (outcome_of r bits past x).next ≡ true
 outcome_stays r bits past (Says m) ok p read more = complete_stays r.given m past p read
 outcome_stays r bits past Longer ok p read more = valid_of past (r.at + 1) bits r.given p (more refl) (valid_parts r ok).1
-outcome_stays r bits past Unsupported ok p read more = valid_of past 0 0 No p (low_pairs 0 0 (lit≤ tt)) refl
-outcome_stays r bits past (NotRead why) ok p read more = ok
+outcome_stays r bits past Unsupported ok p read more = valid_of past 0 0 None p (low_pairs 0 0 (lit≤ tt)) refl
 
 -- the tenth pair of an extended frame
 tenth_pairs : (at bits : ℕ) → at ≡ 22 → bits % 32 ≡ 15 → pairs_ok (at + 1) bits ≡ true

@@ -6,6 +6,7 @@
 --     Received, refused, short, done       what a run in lent bytes owes at each return
 --     runs_lowest                          RunsLowest
 --     heard_length                         one event for each half-cycle
+use Rattle.std.specs.Prelude.{Result, Ok, Err}
 use mathlib.Core.Path.{◌≡◌, refl, sym, ap, ap₂, ◌∙◌}
 use mathlib.Core.Bool.{true, false≢true}
 use mathlib.Core.List.{List, [], ◌∷◌, ◌++◌, flat_map}
@@ -16,8 +17,6 @@ use borrow.Author.Tests.{le-leb, lt-leb}
 use lib.ListN.{length, set, drop, length-set}
 use lib.Seq.{sets, length-sets}
 use Rattle.ground.specs.Refusals.{judged, reports, refuses, count_report}
-use Rattle.ground.specs.declared.CountAnswer.{CountAnswer}
-use Rattle.ground.specs.declared.CountAnswer.TheVariants.{Done, Refused}
 use Rattle.ground.specs.declared.Refusal.{Refusal}
 use Rattle.ground.specs.declared.Refusal.TheVariants as refusal
 use Rattle.ground.proofs.Causes.{lowest_given}
@@ -32,8 +31,6 @@ use Rattle.wire.specs.declared.Five.{Five}
 use Rattle.wire.proofs.MessageLaws.{message_length}
 use Rattle.receiver.specs.Bytes.{frame_byte, since_byte, target_byte, receiver_in, is_receiver, holds_receiver, events_by, given_bytes, receiver_bytes, event_bytes}
 use Rattle.receiver.specs.Bytes.{events_heard, bytes_after, receive_causes, receive_answer, state_after, events_after, RunsLowest, put_causes, stretch_causes}
-use Rattle.receiver.specs.declared.lent.ReceiverRead.{ReceiverRead}
-use Rattle.receiver.specs.declared.lent.ReceiverRead.TheVariants.{Receiver as Is, Refused as NoReceiver}
 
 -- ---- bytes put one by one
 
@@ -81,9 +78,9 @@ pub heard_length : (state halves : List ℕ) → holds_receiver state ≡ true �
 unfolding events_heard
 heard_length state halves t = go (receiver_in state) t
   where
-    go : (x : ReceiverRead) → is_receiver x ≡ true → length (events_by x halves) ≡ length halves
-    go (Is r) t' = one_each r halves
-    go (NoReceiver why) t' = absurd (false≢true t')
+    go : (x : Result Receiver Refusal) → is_receiver x ≡ true → length (events_by x halves) ≡ length halves
+    go (Ok r) t' = one_each r halves
+    go (Err why) t' = absurd (false≢true t')
 
 events_placed : (r : Receiver) (hs evs : List ℕ) → 6 * length hs ≤ length evs
     → sets evs 0 (flat_map event_bytes (events_of r hs)) ≡ flat_map event_bytes (events_of r hs) ++ drop (6 * length hs) evs
@@ -95,25 +92,25 @@ events_placed r hs evs room =
 -- ---- what a run in lent bytes owes at each return: its answer, what that reports, the receiver's bytes and the buffer of events
 
 module _ (s hs evs : List ℕ) where
-  abbrev pub Received : CountAnswer → List ℕ → List ℕ → Type 0
+  abbrev pub Received : Result ℕ Refusal → List ℕ → List ℕ → Type 0
   Received o s' evs' =
       (o ≡ receive_answer s hs (length evs))
       × ((count_report o ≡ judged (receive_causes s hs (length evs)) (reports (length hs ∷ [])) refuses)
       × ((s' ≡ state_after s hs (length evs))
       × (evs' ≡ events_after s hs evs)))
 
-  pub refused : (why : Refusal) → receiver_in s ≡ NoReceiver why → Received (Refused refusal.State) s evs
+  pub refused : (why : Refusal) → receiver_in s ≡ Err why → Received (Err refusal.State) s evs
   unfolding receive_answer state_after events_after judged
   refused why e = (rw e, (rw e, (rw e, rw e)))
 
-  module _ (r : Receiver) (is : receiver_in s ≡ Is r) where
-    pub short : length evs < 6 * length hs → Received (Refused refusal.Short) s evs
+  module _ (r : Receiver) (is : receiver_in s ≡ Ok r) where
+    pub short : length evs < 6 * length hs → Received (Err refusal.Short) s evs
     unfolding receive_answer state_after events_after judged
     short less = let t = lt-leb (6 * length hs) (length evs) less in (rw (is, t), (rw (is, t), (rw (is, t), rw (is, t))))
 
     pub done : (next : Receiver) (s' evs' : List ℕ) → 6 * length hs ≤ length evs
         → (next ≡ receiver_after r hs) × (evs' ≡ sets evs 0 (flat_map event_bytes (events_of r hs))) → s' ≡ receiver_bytes next
-        → Received (Done (length hs)) s' evs'
+        → Received (Ok (length hs)) s' evs'
     unfolding receive_answer state_after events_after judged events_heard bytes_after
     done next s' evs' room ran put =
         let t = le-leb (6 * length hs) (length evs) room in

@@ -6,6 +6,7 @@
 --     events_on, rest_on         the receiver, and the events, of what is left after it
 --     Owed, stretch_short, stretch_done     what the routine owes at each return
 --     stretch_told               what its caller learns
+use Rattle.std.specs.Prelude.{Ok, Err, Option, Some, None}
 use mathlib.Core.Path.{◌≡◌, refl, sym, ap, ap₂, subst, ◌∙◌}
 use mathlib.Core.Bool.{true}
 use mathlib.Core.List.{List, [], ◌∷◌, ◌++◌, flat_map, append-nil}
@@ -16,14 +17,11 @@ use borrow.Author.Tests.{le-leb, lt-leb}
 use lib.ListN.{length, get_or, drop, drop_of_length-le, length-append}
 use lib.Seq.{sets, length-sets, drop-cons, drop-drop}
 use Rattle.ground.specs.Refusals.{judged, reports, refuses, count_report}
-use Rattle.ground.specs.declared.CountAnswer.TheVariants.{Done, Refused}
 use Rattle.ground.specs.declared.Refusal.TheVariants as refusal
 use Rattle.ground.proofs.Lists.{sets-append, flat_append}
 use Rattle.message.specs.declared.Message.{Message}
 use Rattle.receiver.specs.Receivers.{receiver_ok, step_of}
 use Rattle.receiver.specs.Hearing.{events_of, receiver_after, given_by, first_given, else_more, to_given}
-use Rattle.receiver.specs.declared.Given.{Given}
-use Rattle.receiver.specs.declared.Given.TheVariants.{No, Yes}
 use Rattle.receiver.specs.declared.Receiver.{Receiver}
 use Rattle.receiver.specs.declared.Heard.{Heard}
 use Rattle.receiver.specs.Bytes.{event_bytes, stretch_causes, stretch_of, stretch_events}
@@ -39,9 +37,9 @@ to_split r [] = refl
 to_split r (h ∷ hs) =
     ap (λ (l : List ℕ). h ∷ l) (go hs (to_given (step_of r h).next hs) (given_by (step_of r h).event) (to_split (step_of r h).next hs))
   where
-    go : (l more : List ℕ) (g : Given) → l ≡ more ++ drop (length more) l → l ≡ else_more g more ++ drop (length (else_more g more)) l
-    go l more No e = e
-    go l more (Yes m) e = refl
+    go : (l more : List ℕ) (g : Option Message) → l ≡ more ++ drop (length more) l → l ≡ else_more g more ++ drop (length (else_more g more)) l
+    go l more None e = e
+    go l more (Some m) e = refl
 
 pub to_most : (r : Receiver) (hs : List ℕ) → length (to_given r hs) ≤ length hs
 to_most r hs =
@@ -57,14 +55,14 @@ to_some r (h ∷ hs) some = omega arith
 -- ---- one turn, at place i
 
 -- what is still to come of a stretch: where it ends, with which receiver and message, and what then stands in the buffer of events
-pub record Toward (hs : List ℕ) (r : Receiver) (i : ℕ) (evs : List ℕ) (at : ℕ) (next : Receiver) (given : Given) (after : List ℕ) : Type 0 where
+pub record Toward (hs : List ℕ) (r : Receiver) (i : ℕ) (evs : List ℕ) (at : ℕ) (next : Receiver) (given : Option Message) (after : List ℕ) : Type 0 where
   pub place : at ≡ i + length (to_given r (drop i hs))
   pub receiver : next ≡ receiver_after r (to_given r (drop i hs))
   pub message : given ≡ first_given r (drop i hs)
   pub events : after ≡ sets evs (6 * i) (flat_map event_bytes (events_of r (to_given r (drop i hs))))
 
 module _ (hs : List ℕ) (r : Receiver) (i : ℕ) (evs : List ℕ) where
-  pub stretch_end : length hs ≤ i → Toward hs r i evs i r No evs
+  pub stretch_end : length hs ≤ i → Toward hs r i evs i r None evs
   unfolding to_given first_given receiver_after events_of flat_map
   stretch_end none =
       let e : drop i hs ≡ [] = drop_of_length-le hs none in
@@ -74,8 +72,8 @@ module _ (hs : List ℕ) (r : Receiver) (i : ℕ) (evs : List ℕ) where
     at_i : drop i hs ≡ get_or hs i 0 ∷ drop (i + 1) hs
     at_i = drop-cons hs i 0 more ∙ ap (λ (n : ℕ). get_or hs i 0 ∷ drop n hs) (sym (add-one i))
 
-    pub stretch_given : (m : Message) → given_by (step_of r (get_or hs i 0)).event ≡ Yes m
-        → Toward hs r i evs (i + 1) (step_of r (get_or hs i 0)).next (Yes m) (sets evs (6 * i) (event_bytes (step_of r (get_or hs i 0)).event))
+    pub stretch_given : (m : Message) → given_by (step_of r (get_or hs i 0)).event ≡ Some m
+        → Toward hs r i evs (i + 1) (step_of r (get_or hs i 0)).next (Some m) (sets evs (6 * i) (event_bytes (step_of r (get_or hs i 0)).event))
     unfolding to_given first_given receiver_after events_of flat_map
     stretch_given m e =
         let one : to_given r (drop i hs) ≡ get_or hs i 0 ∷ [] = rw (at_i, e) refl in
@@ -87,7 +85,7 @@ module _ (hs : List ℕ) (r : Receiver) (i : ℕ) (evs : List ℕ) where
               (event_bytes (step_of r (get_or hs i 0)).event))));
         }
 
-    pub stretch_on : given_by (step_of r (get_or hs i 0)).event ≡ No → (at : ℕ) (next : Receiver) (given : Given) (after : List ℕ)
+    pub stretch_on : given_by (step_of r (get_or hs i 0)).event ≡ None → (at : ℕ) (next : Receiver) (given : Option Message) (after : List ℕ)
         → Toward hs (step_of r (get_or hs i 0)).next (i + 1) (sets evs (6 * i) (event_bytes (step_of r (get_or hs i 0)).event)) at next given after
         → Toward hs r i evs at next given after
     unfolding to_given first_given receiver_after events_of flat_map
@@ -107,13 +105,13 @@ module _ (hs : List ℕ) (r : Receiver) (i : ℕ) (evs : List ℕ) where
 
     -- the same of a turn as it was taken
     module _ (o : Heard) (evs' : List ℕ) (stepped : o ≡ step_of r (get_or hs i 0)) (put : evs' ≡ sets evs (6 * i) (event_bytes o.event)) where
-      pub turn_given : (m : Message) → given_by o.event ≡ Yes m → Toward hs r i evs (i + 1) o.next (Yes m) evs'
+      pub turn_given : (m : Message) → given_by o.event ≡ Some m → Toward hs r i evs (i + 1) o.next (Some m) evs'
       turn_given m e =
-          subst (λ (l : List ℕ). Toward hs r i evs (i + 1) o.next (Yes m) l) (sym put)
-          (subst (λ (x : Heard). Toward hs r i evs (i + 1) x.next (Yes m) (sets evs (6 * i) (event_bytes x.event))) (sym stepped)
+          subst (λ (l : List ℕ). Toward hs r i evs (i + 1) o.next (Some m) l) (sym put)
+          (subst (λ (x : Heard). Toward hs r i evs (i + 1) x.next (Some m) (sets evs (6 * i) (event_bytes x.event))) (sym stepped)
           (stretch_given m (ap (λ (x : Heard). given_by x.event) (sym stepped) ∙ e)))
 
-      pub turn_on : given_by o.event ≡ No → (at : ℕ) (next : Receiver) (given : Given) (after : List ℕ)
+      pub turn_on : given_by o.event ≡ None → (at : ℕ) (next : Receiver) (given : Option Message) (after : List ℕ)
           → Toward hs o.next (i + 1) evs' at next given after → Toward hs r i evs at next given after
       turn_on e at next given after t =
           stretch_on (ap (λ (x : Heard). given_by x.event) (sym stepped) ∙ e) at next given after
@@ -122,7 +120,7 @@ module _ (hs : List ℕ) (r : Receiver) (i : ℕ) (evs : List ℕ) where
 
 -- ---- what is left after it
 
-module _ (hs : List ℕ) (r : Receiver) (i : ℕ) (evs : List ℕ) (at : ℕ) (next : Receiver) (given : Given) (after : List ℕ)
+module _ (hs : List ℕ) (r : Receiver) (i : ℕ) (evs : List ℕ) (at : ℕ) (next : Receiver) (given : Option Message) (after : List ℕ)
     (t : Toward hs r i evs at next given after) where
   to : List ℕ
   to = to_given r (drop i hs)
@@ -161,12 +159,12 @@ module _ (hs : List ℕ) (r : Receiver) (i : ℕ) (evs : List ℕ) where
       × (after ≡ stretch_events r hs i evs))
 
   module _ (ok : receiver_ok r ≡ true) where
-    pub stretch_short : length evs < 6 * length hs → Owed (record { answer = Refused refusal.Short; next = r; given = No }) evs
+    pub stretch_short : length evs < 6 * length hs → Owed (record { answer = Err refusal.Short; next = r; given = None }) evs
     unfolding stretch_of stretch_events judged
     stretch_short less = let t = lt-leb (6 * length hs) (length evs) less in (rw (ok, t), (rw (ok, t), rw (ok, t)))
 
-    pub stretch_done : (at : ℕ) (next : Receiver) (given : Given) (after : List ℕ) → 6 * length hs ≤ length evs → Toward hs r i evs at next given after
-        → Owed (record { answer = Done at; next = next; given = given }) after
+    pub stretch_done : (at : ℕ) (next : Receiver) (given : Option Message) (after : List ℕ) → 6 * length hs ≤ length evs → Toward hs r i evs at next given after
+        → Owed (record { answer = Ok at; next = next; given = given }) after
     unfolding stretch_of stretch_events judged
     stretch_done at next given after room t =
         let b = le-leb (6 * length hs) (length evs) room in
@@ -174,13 +172,13 @@ module _ (hs : List ℕ) (r : Receiver) (i : ℕ) (evs : List ℕ) where
 
     -- and what a caller learns of one that is not refused
     pub stretch_told : (o : Stretch) (after : List ℕ) → 6 * length hs ≤ length evs → o ≡ stretch_of r hs i (length evs) → after ≡ stretch_events r hs i evs
-        → (o.answer ≡ Done (i + length (to_given r (drop i hs))))
+        → (o.answer ≡ Ok (i + length (to_given r (drop i hs))))
         × Toward hs r i evs (i + length (to_given r (drop i hs))) o.next o.given after
     unfolding stretch_of stretch_events judged
     stretch_told o after room e f =
         let b = le-leb (6 * length hs) (length evs) room in
         let done : o ≡ record {
-          answer = Done (i + length (to_given r (drop i hs)));
+          answer = Ok (i + length (to_given r (drop i hs)));
           next = receiver_after r (to_given r
               (drop i hs));
           given = first_given r (drop i hs);

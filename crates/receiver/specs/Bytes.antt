@@ -1,29 +1,20 @@
 -- A receiver as thirteen bytes, an event as six, and a run of a receiver in lent bytes over half-cycles that are lent.
 use Rattle.std.specs.Prelude.{ℕ, ◌+◌, ◌*◌, ◌/◌, ◌%◌, ◌^◌, ◌≡◌, Bool, true, false, ◌&&◌, ◌||◌, eqb, leb, length, get_or, drop}
+use Rattle.std.specs.Prelude.{Result, Ok, Err, Option, None}
 use mathlib.Core.List.{List, [], ◌∷◌, ◌++◌, flat_map}
 use Rattle.std.proofs.lemmas.List.Edits.{sets}
 use Rattle.ground.specs.Choice.{pick}
 use Rattle.ground.specs.Refusals.{Report, reports, refuses, Cause, unless, judged, number_given, lowest}
+use Rattle.ground.specs.declared.Refusal.{Refusal}
 use Rattle.ground.specs.declared.Refusal.TheVariants as refusal
-use Rattle.ground.specs.declared.CountAnswer.{CountAnswer}
-use Rattle.ground.specs.declared.CountAnswer.TheVariants.{Done, Refused}
 use Rattle.message.specs.declared.Message.{Message}
 use Rattle.receiver.specs.Receivers.{fresh_receiver, near, far, pairs_ok, waiting_ok, receiver_ok, event_number, step_of}
 use Rattle.receiver.specs.Hearing.{events_of, receiver_after, first_given, to_given}
-use Rattle.receiver.specs.declared.Given.{Given}
-use Rattle.receiver.specs.declared.Given.TheVariants.{No, Yes}
 use Rattle.receiver.specs.declared.Receiver.{Receiver}
 use Rattle.receiver.specs.declared.Event.{Event}
 use Rattle.receiver.specs.declared.Event.TheVariants.{Nothing, Message as Gives, Repeat, BrokenPair, BrokenUnsupported, Refused as Stays}
-use Rattle.wire.specs.Messages.{message_in, message_bytes, none_bytes, kept_from}
-use Rattle.wire.specs.declared.KeptRead.{KeptRead}
-use Rattle.wire.specs.declared.KeptRead.TheVariants as kept
-use Rattle.wire.specs.declared.MessageRead.TheVariants.{Message as Says}
-use Rattle.receiver.specs.declared.lent.GivenRead.{GivenRead}
-use Rattle.receiver.specs.declared.lent.GivenRead.TheVariants.{Given as Was, Refused as NoGiven}
+use Rattle.wire.specs.Messages.{message_in, message_bytes, none_bytes, kept_bytes, kept_from}
 use Rattle.receiver.specs.declared.lent.Stretch.{Stretch}
-use Rattle.receiver.specs.declared.lent.ReceiverRead.{ReceiverRead}
-use Rattle.receiver.specs.declared.lent.ReceiverRead.TheVariants.{Receiver as Is, Refused as NoReceiver}
 
 -- ---- a receiver: past; the place in its frame, 0 while it hunts; bits in four bytes, highest first; the message given before in five; and of a waiting
 -- k and the place awaited, 0 and 0 where there is none
@@ -50,25 +41,16 @@ place_from at since target =
     (pick (eqb target 22) (pick (eqb at 0 && leb since (22 + 3)) (near since) NO_PLACE)
     (pick (eqb target 62) (pick (eqb at 0 && leb since (62 + 3)) (far since) NO_PLACE) NO_PLACE))
 
--- the message given before, or none, as five bytes keep it
-abbrev pub given_as : KeptRead → GivenRead
-given_as kept.Nothing = Was No
-given_as (kept.Message m) = Was (Yes m)
-given_as (kept.Refused why) = NoGiven why
-
-unfoldable pub given_from : ℕ → ℕ → ℕ → ℕ → ℕ → GivenRead
-given_from kind house third «data» command = given_as (kept_from kind house third «data» command)
-
 -- a number of four bytes, highest first
 abbrev pub from_four : ℕ → ℕ → ℕ → ℕ → ℕ
 from_four a b c d = ((a * 256 + b) * 256 + c) * 256 + d
 
 -- 6: "a kept half-cycle not 0 or 1, more pairs than its frame has, house or unit above 15", and "a receiver whose waiting no break .. leads to"
-unfoldable pub taken_receiver : Receiver → ReceiverRead
-taken_receiver r = judged (unless (receiver_ok r) refusal.State ∷ []) (Is r) NoReceiver
+unfoldable pub taken_receiver : Receiver → Result Receiver Refusal
+taken_receiver r = judged (unless (receiver_ok r) refusal.State ∷ []) (Ok r) Err
 
-abbrev pub receiver_with : List ℕ → GivenRead → ReceiverRead
-receiver_with s (Was g) =
+abbrev pub receiver_with : List ℕ → Result (Option Message) Refusal → Result Receiver Refusal
+receiver_with s (Ok g) =
     taken_receiver
     (record {
       past = get_or s 0 0;
@@ -76,18 +58,18 @@ receiver_with s (Was g) =
       bits = from_four (get_or s 2 0) (get_or s 3 0) (get_or s 4 0) (get_or s 5 0);
       given = g;
     })
-receiver_with s (NoGiven why) = NoReceiver refusal.State
+receiver_with s (Err why) = Err refusal.State
 
--- the receiver that bytes hold: thirteen of them, with a message given before or none, in a state that is not refused
-unfoldable pub receiver_in : List ℕ → ReceiverRead
+-- the receiver that bytes hold: thirteen of them, with a message given before or none as five bytes keep it, in a state that is not refused
+unfoldable pub receiver_in : List ℕ → Result Receiver Refusal
 receiver_in s =
     judged (unless (eqb (length s) RECEIVER_BYTES) refusal.State ∷ [])
-    (receiver_with s (given_from (get_or s 6 0) (get_or s 7 0) (get_or s 8 0) (get_or s 9 0) (get_or s 10 0)))
-    NoReceiver
+    (receiver_with s (kept_from (get_or s 6 0) (get_or s 7 0) (get_or s 8 0) (get_or s 9 0) (get_or s 10 0)))
+    Err
 
-abbrev pub is_receiver : ReceiverRead → Bool
-is_receiver (Is r) = true
-is_receiver (NoReceiver why) = false
+abbrev pub is_receiver : Result Receiver Refusal → Bool
+is_receiver (Ok r) = true
+is_receiver (Err why) = false
 
 abbrev pub holds_receiver : List ℕ → Bool
 holds_receiver s = is_receiver (receiver_in s)
@@ -96,14 +78,13 @@ abbrev pub held_causes : List ℕ → List Cause
 held_causes s = unless (holds_receiver s) refusal.State ∷ []
 
 -- 01's number and value for each answer
-abbrev pub receiver_report : ReceiverRead → Report Receiver
-receiver_report (Is r) = reports (r ∷ [])
-receiver_report (NoReceiver why) = refuses why
+abbrev pub receiver_report : Result Receiver Refusal → Report Receiver
+receiver_report (Ok r) = reports (r ∷ [])
+receiver_report (Err why) = refuses why
 
 -- the bytes of a receiver
-abbrev pub given_bytes : Given → List ℕ
-given_bytes No = none_bytes
-given_bytes (Yes m) = message_bytes m
+abbrev pub given_bytes : Option Message → List ℕ
+given_bytes given = kept_bytes given
 
 unfoldable pub receiver_bytes : Receiver → List ℕ
 receiver_bytes r =
@@ -117,14 +98,14 @@ receiver_bytes r =
 abbrev pub put_causes : Receiver → List ℕ → List Cause
 put_causes r state = unless (eqb (length state) RECEIVER_BYTES) refusal.State ∷ unless (receiver_ok r) refusal.State ∷ []
 
-unfoldable pub put_answer : Receiver → List ℕ → CountAnswer
-put_answer r state = judged (put_causes r state) (Done 0) Refused
+unfoldable pub put_answer : Receiver → List ℕ → Result ℕ Refusal
+put_answer r state = judged (put_causes r state) (Ok 0) Err
 
 unfoldable pub put_after : Receiver → List ℕ → List ℕ
 put_after r state = judged (put_causes r state) (receiver_bytes r) (λ why. state)
 
 -- a fresh one
-abbrev pub fresh_answer : List ℕ → CountAnswer
+abbrev pub fresh_answer : List ℕ → Result ℕ Refusal
 fresh_answer state = put_answer fresh_receiver state
 
 abbrev pub fresh_after : List ℕ → List ℕ
@@ -155,17 +136,17 @@ event_bytes e = event_code e ∷ event_message e
 -- ---- one step for each half-cycle, by the receiver in lent bytes
 
 -- what it says, one event for each half-cycle; bytes that hold no receiver say nothing
-abbrev pub events_by : ReceiverRead → List ℕ → List Event
-events_by (Is r) halves = events_of r halves
-events_by (NoReceiver why) halves = []
+abbrev pub events_by : Result Receiver Refusal → List ℕ → List Event
+events_by (Ok r) halves = events_of r halves
+events_by (Err why) halves = []
 
 unfoldable pub events_heard : List ℕ → List ℕ → List Event
 events_heard state halves = events_by (receiver_in state) halves
 
 -- its bytes after the last half-cycle; bytes that hold no receiver stay
-abbrev pub bytes_by : ReceiverRead → List ℕ → List ℕ → List ℕ
-bytes_by (Is r) state halves = receiver_bytes (receiver_after r halves)
-bytes_by (NoReceiver why) state halves = state
+abbrev pub bytes_by : Result Receiver Refusal → List ℕ → List ℕ → List ℕ
+bytes_by (Ok r) state halves = receiver_bytes (receiver_after r halves)
+bytes_by (Err why) state halves = state
 
 unfoldable pub bytes_after : List ℕ → List ℕ → List ℕ
 bytes_after state halves = bytes_by (receiver_in state) state halves
@@ -179,8 +160,8 @@ abbrev pub receive_causes : List ℕ → List ℕ → ℕ → List Cause
 receive_causes state halves room = held_causes state ++ space_for halves room
 
 -- how many half-cycles came
-unfoldable pub receive_answer : List ℕ → List ℕ → ℕ → CountAnswer
-receive_answer state halves room = judged (receive_causes state halves room) (Done (length halves)) Refused
+unfoldable pub receive_answer : List ℕ → List ℕ → ℕ → Result ℕ Refusal
+receive_answer state halves room = judged (receive_causes state halves room) (Ok (length halves)) Err
 
 unfoldable pub state_after : List ℕ → List ℕ → ℕ → List ℕ
 state_after state halves room = judged (receive_causes state halves room) (bytes_after state halves) (λ why. state)
@@ -202,8 +183,8 @@ unfoldable pub stretch_of : Receiver → List ℕ → ℕ → ℕ → Stretch
 stretch_of r halves from room =
     let rest : List ℕ = drop from halves in
     judged (stretch_causes r halves room)
-    (record { answer = Done (from + length (to_given r rest)); next = receiver_after r (to_given r rest); given = first_given r rest })
-    (λ why. record { answer = Refused why; next = r; given = No })
+    (record { answer = Ok (from + length (to_given r rest)); next = receiver_after r (to_given r rest); given = first_given r rest })
+    (λ why. record { answer = Err why; next = r; given = None })
 
 -- the events at their places
 unfoldable pub stretch_events : Receiver → List ℕ → ℕ → List ℕ → List ℕ
@@ -222,7 +203,7 @@ pub record RunsLowest : Type 0 where
 
 -- a receiver is read back from its bytes
 abbrev pub ReceiversReadBack : Type 0
-ReceiversReadBack = (r : Receiver) → receiver_ok r ≡ true → receiver_in (receiver_bytes r) ≡ Is r
+ReceiversReadBack = (r : Receiver) → receiver_ok r ≡ true → receiver_in (receiver_bytes r) ≡ Ok r
 
 -- so are its place's three bytes, and no other three say that place
 pub record PlacesReadBack : Type 0 where
@@ -232,12 +213,12 @@ pub record PlacesReadBack : Type 0 where
 
 -- fresh bytes hold a receiver, and bytes that hold one still do after any half-cycles
 pub record StaysReceiver : Type 0 where
-  pub fresh : (state : List ℕ) → length state ≡ RECEIVER_BYTES → receiver_in (fresh_after state) ≡ Is fresh_receiver
+  pub fresh : (state : List ℕ) → length state ≡ RECEIVER_BYTES → receiver_in (fresh_after state) ≡ Ok fresh_receiver
   pub after : (state halves : List ℕ) → holds_receiver state ≡ true → holds_receiver (bytes_after state halves) ≡ true
 
 -- the code is 1 for MESSAGE and for no other event of a receiver, and its message is then read back; two events with the same bytes are one
 pub record EventsReadBack : Type 0 where
-  pub given : (r : Receiver) (h : ℕ) (m : Message) → (step_of r h).event ≡ Gives m → message_in (drop 1 (event_bytes (Gives m))) ≡ Says m
+  pub given : (r : Receiver) (h : ℕ) (m : Message) → (step_of r h).event ≡ Gives m → message_in (drop 1 (event_bytes (Gives m))) ≡ Ok m
   pub code_one : (r : Receiver) (h : ℕ) → event_code (step_of r h).event ≡ 1 → (m : Message) × ((step_of r h).event ≡ Gives m)
   pub one_to_one : (r q : Receiver) (h k : ℕ) → event_bytes (step_of r h).event ≡ event_bytes (step_of q k).event
       → (step_of r h).event ≡ (step_of q k).event

@@ -1,5 +1,5 @@
 -- The receiver (01, 'The receiver', 'Numbers given back'): what each half-cycle says, and where the receiver then stands.
-use Rattle.std.specs.Prelude.{ℕ, ◌+◌, ◌-◌, ◌*◌, ◌/◌, ◌%◌, ◌^◌, ◌≡◌, Bool, true, false, ◌&&◌, ◌||◌, List, [], ◌∷◌, eqb, leb}
+use Rattle.std.specs.Prelude.{ℕ, ◌+◌, ◌-◌, ◌*◌, ◌/◌, ◌%◌, ◌^◌, ◌≡◌, Bool, true, false, ◌&&◌, ◌||◌, List, [], ◌∷◌, eqb, leb, Option, Some, None}
 use Rattle.ground.specs.Choice.{pick}
 use Rattle.ground.specs.Refusals.{refusal_number, Cause, unless, judged, number_given, lowest}
 use Rattle.ground.specs.declared.Refusal.TheVariants as refusal
@@ -7,9 +7,7 @@ use Rattle.message.specs.Messages.{message_ok, same_message}
 use Rattle.message.specs.Words.{standard_of, extended_of}
 use Rattle.message.specs.declared.Message.{Message}
 use Rattle.message.specs.declared.word.Reading.{Reading}
-use Rattle.message.specs.declared.word.Reading.TheVariants.{Message as Says, Longer, Unsupported, Refused as NotRead}
-use Rattle.receiver.specs.declared.Given.{Given}
-use Rattle.receiver.specs.declared.Given.TheVariants.{No, Yes}
+use Rattle.message.specs.declared.word.Reading.TheVariants.{Message as Says, Longer, Unsupported}
 use Rattle.receiver.specs.declared.Receiver.{Receiver}
 use Rattle.receiver.specs.declared.Event.{Event}
 use Rattle.receiver.specs.declared.Event.TheVariants.{Nothing, Message as Gives, Repeat, BrokenPair, BrokenUnsupported, Refused}
@@ -26,7 +24,7 @@ event_number (Refused why) = refusal_number why
 
 -- a receiver that "is hunting and has received no half-cycle"
 abbrev pub fresh_receiver : Receiver
-fresh_receiver = record { past = 63; at = 0; bits = 0; given = No }
+fresh_receiver = record { past = 63; at = 0; bits = 0; given = None }
 
 -- ---- the waiting (02, A2)
 
@@ -53,9 +51,9 @@ unfoldable pub pairs_ok : ℕ → ℕ → Bool
 pairs_ok at bits = leb at 22 || (leb at 62 && eqb (bits / 2 ^ ((at - 23) / 2) % 32) 15)
 
 -- "house or unit above 15"
-abbrev pub given_ok : Given → Bool
-given_ok No = true
-given_ok (Yes m) = message_ok m
+abbrev pub given_ok : Option Message → Bool
+given_ok None = true
+given_ok (Some m) = message_ok m
 
 -- "6 also for a receiver whose waiting no break, with calls after it, leads to". A break leads first to k = 6, in the first pair, and beyond the ninth to
 -- k = 24. WaitingsRight of receiver_laws states in 02's words that these and no others are led to.
@@ -74,7 +72,7 @@ shifted past h = past % 32 * 2 + h
 
 -- it stands at a place, with no bits and no message given directly before
 abbrev pub bare_at : ℕ → ℕ → Receiver
-bare_at past at = record { past = past; at = at; bits = 0; given = No }
+bare_at past at = record { past = past; at = at; bits = 0; given = None }
 
 -- it hunts, and waits for a start if `at` is not 0
 abbrev pub waiting : ℕ → ℕ → Receiver
@@ -116,27 +114,26 @@ await_of r h =
     (hunt_of r.past 0 h)
 
 -- "equal to the one just given"
-abbrev pub is_repeat : Given → Message → Bool
-is_repeat No m = false
-is_repeat (Yes g) m = same_message g m
+abbrev pub is_repeat : Option Message → Message → Bool
+is_repeat None m = false
+is_repeat (Some g) m = same_message g m
 
 -- "A complete frame gives MESSAGE", and four more half-cycles are awaited; "equal to the one just given, it gives REPEAT and hunting follows"
-unfoldable pub complete_of : Given → Message → ℕ → Heard
+unfoldable pub complete_of : Option Message → Message → ℕ → Heard
 complete_of given m past =
     pick (is_repeat given m) (says Repeat (hunting past))
-    (says (Gives m) (record { past = past; at = 1; bits = 0; given = Yes m }))
+    (says (Gives m) (record { past = past; at = 1; bits = 0; given = Some m }))
 
 -- what the bits say when a pair is complete: of nine pairs a message, "code 10, 11 or 12 with function bit 1" or that a longer frame has
 -- begun, of twenty-nine an extended message; otherwise that pairs are to follow
 abbrev pub reading_of : ℕ → ℕ → Reading
 reading_of at bits = pick (eqb at 22) (standard_of bits) (pick (eqb at 62) (Says (extended_of bits)) Longer)
 
--- what becomes of the receiver by it; no bits that it has read are refused
+-- what becomes of the receiver by it
 abbrev pub outcome_of : Receiver → ℕ → ℕ → Reading → Heard
 outcome_of r bits past (Says m) = complete_of r.given m past
 outcome_of r bits past Longer = says Nothing (record { past = past; at = r.at + 1; bits = bits; given = r.given })
 outcome_of r bits past Unsupported = says BrokenUnsupported (hunting past)
-outcome_of r bits past (NotRead why) = says (Refused why) r
 
 -- a pair of different half-cycles is complete, and with it perhaps the frame
 unfoldable pub pair_of : Receiver → ℕ → ℕ → Heard

@@ -6,37 +6,23 @@ ghost use Rattle.ground.specs.Refusals.{count_report, reports, refuses, judged, 
 ghost use Rattle.wire.specs.Messages.{message_bytes, none_bytes, listed};
 ghost use Rattle.receiver.specs.Receivers.{fresh_receiver, receiver_ok};
 ghost use Rattle.receiver.specs.Hearing.{events_of, receiver_after, given_by, first_given, to_given};
-ghost use Rattle.receiver.specs.Bytes.{frame_byte, since_byte, target_byte, place_from, given_from, from_four, taken_receiver, receiver_in};
+ghost use Rattle.receiver.specs.Bytes.{frame_byte, since_byte, target_byte, place_from, from_four, taken_receiver, receiver_in};
 ghost use Rattle.receiver.specs.Bytes.{receiver_report, held_causes, given_bytes, receiver_bytes, event_bytes};
 ghost use Rattle.receiver.specs.Bytes.{put_causes, put_answer, put_after, fresh_answer, fresh_after, receive_causes, receive_answer, state_after, events_after};
 ghost use Rattle.receiver.specs.Bytes.{stretch_causes, stretch_of, stretch_events};
 
-use crate::{Event, Given, Receiver, step_valid, valid};
-use ground::{CountAnswer, Refusal, refusal_number};
+use crate::{Event, Receiver, step_valid, valid};
+use ground::{Refusal, refusal_number};
 use message::Message;
-use wire::{Five, KeptRead, five_none, five_of, kept_from};
-
-// What the five bytes of the message given before say.
-#[derive(Clone, Copy)]
-enum GivenRead {
-    Given(Given),
-    Refused(Refusal),
-}
-
-// What a receiver's bytes say.
-#[derive(Clone, Copy)]
-pub enum ReceiverRead {
-    Receiver(Receiver),
-    Refused(Refusal),
-}
+use wire::{Five, five_kept, five_none, five_of, kept_from};
 
 // A run over half-cycles up to the first that gives MESSAGE: the place of the half-cycle after the last that it took, or why it took none;
 // the receiver for that place; and the message given, if any.
 #[derive(Clone, Copy)]
 pub struct Stretch {
-    pub answer: CountAnswer,
+    pub answer: Result<usize, Refusal>,
     pub next: Receiver,
-    pub given: Given,
+    pub given: Option<Message>,
 }
 
 // The same where nothing is refused.
@@ -44,18 +30,7 @@ pub struct Stretch {
 struct Ran {
     at: usize,
     next: Receiver,
-    given: Given,
-}
-
-// The message given before, if any: five 0, or a message's five bytes.
-fn given_from(kind: u8, house: u8, third: u8, data: u8, command: u8) -> GivenRead
-    ensures { result ≡ given_from kind house third «data» command }
-{
-    match kept_from(kind, house, third, data, command) {
-        KeptRead::Nothing => GivenRead::Given(Given::No),
-        KeptRead::Message(m) => GivenRead::Given(Given::Yes(m)),
-        KeptRead::Refused(why) => GivenRead::Refused(why),
-    }
+    given: Option<Message>,
 }
 
 // A number from its four bytes, highest first.
@@ -66,13 +41,13 @@ fn number_of(a: u8, b: u8, c: u8, d: u8) -> u32
 }
 
 // A receiver, refused where it is in a state that there is not.
-fn taken(r: Receiver) -> ReceiverRead
+fn taken(r: Receiver) -> Result<Receiver, Refusal>
     ensures { result ≡ taken_receiver r }
 {
     if !valid(r) {
-        return ReceiverRead::Refused(Refusal::State);
+        return Err(Refusal::State);
     }
-    ReceiverRead::Receiver(r)
+    Ok(r)
 }
 
 // The place that three of a receiver's bytes say: that in its frame, or that of a waiting while it hunts. 255, which is refused, where they say none.
@@ -101,34 +76,22 @@ fn place_from(at: u8, since: u8, target: u8) -> u8
 
 // The receiver that bytes hold. Refused where they are not thirteen, where the five of the message given before are neither 0 nor a message's, and
 // where the receiver is in a state that there is not.
-pub fn receiver_in(state: &[u8]) -> ReceiverRead
+pub fn receiver_in(state: &[u8]) -> Result<Receiver, Refusal>
     ensures answer { result ≡ receiver_in state.now }
     ensures number { (receiver_report result).number ≡ number_given (held_causes state.now) }
 {
     if state.len() != 13 {
-        return ReceiverRead::Refused(Refusal::State);
+        return Err(Refusal::State);
     }
     let at = place_from(state[1], state[11], state[12]);
     let bits = number_of(state[2], state[3], state[4], state[5]);
-    match given_from(state[6], state[7], state[8], state[9], state[10]) {
-        GivenRead::Given(g) => taken(Receiver {
-            past: state[0],
-            at: at,
-            bits: bits,
-            given: g,
-        }),
-        GivenRead::Refused(_) => ReceiverRead::Refused(Refusal::State),
-    }
-}
-
-// The five bytes of the message given before, all 0 where there is none.
-fn five_given(given: Given) -> Five
-    ensures { listed result ≡ given_bytes given }
-{
-    match given {
-        Given::No => five_none(),
-        Given::Yes(m) => five_of(m),
-    }
+    let given = kept_from(state[6], state[7], state[8], state[9], state[10])?;
+    taken(Receiver {
+        past: state[0],
+        at,
+        bits,
+        given,
+    })
 }
 
 // The three bytes of a place: that in its frame, and of a waiting where the half-cycle that comes next stands, and the place awaited.
@@ -161,8 +124,7 @@ fn put_bytes(state: &mut [u8], r: Receiver)
     requires { length state.old ≡ 13 }
     ensures { state.new ≡ receiver_bytes r }
 {
-    let given = r.given;
-    let five = five_given(given);
+    let five = five_kept(r.given);
     state[0] = r.past;
     state[1] = frame_byte(r.at);
     state[2] = (r.bits / 16777216) as u8;
@@ -179,44 +141,44 @@ fn put_bytes(state: &mut [u8], r: Receiver)
 }
 
 // Puts a receiver into its thirteen lent bytes. Refused where they are not thirteen, or where it is in a state that there is not.
-pub fn put_receiver(state: &mut [u8], r: Receiver) -> CountAnswer
+pub fn put_receiver(state: &mut [u8], r: Receiver) -> Result<usize, Refusal>
     ensures answer { result ≡ put_answer r state.old }
     ensures report { count_report result ≡ judged (put_causes r state.old) (reports (0 ∷ [])) refuses }
     ensures state { state.new ≡ put_after r state.old }
 {
     if state.len() != 13 {
-        return CountAnswer::Refused(Refusal::State);
+        return Err(Refusal::State);
     }
     if !valid(r) {
-        return CountAnswer::Refused(Refusal::State);
+        return Err(Refusal::State);
     }
     put_bytes(state, r);
-    CountAnswer::Done(0)
+    Ok(0)
 }
 
 // Makes thirteen lent bytes a receiver that hunts and has received no half-cycle. Refused, it changes nothing.
-pub fn fresh(state: &mut [u8]) -> CountAnswer
+pub fn fresh(state: &mut [u8]) -> Result<usize, Refusal>
     ensures answer { result ≡ fresh_answer state.old }
     ensures report { count_report result ≡ judged (put_causes fresh_receiver state.old) (reports (0 ∷ [])) refuses }
     ensures state { state.new ≡ fresh_after state.old }
 {
     if state.len() != 13 {
-        return CountAnswer::Refused(Refusal::State);
+        return Err(Refusal::State);
     }
     put_bytes(state, crate::fresh());
-    CountAnswer::Done(0)
+    Ok(0)
 }
 
-// Puts five numbers from `at` on.
-fn put_five(events: &mut [u8], at: usize, five: Five)
-    requires { at + 5 ≤ length events.old }
-    ensures { events.new ≡ sets events.old at (listed five) }
+// Puts five numbers from `at` on. It has a twin in packet_lent: a routine that both call would be open, and have to test again whether there is room.
+fn put_five(out: &mut [u8], at: usize, five: Five)
+    requires { at + 5 ≤ length out.old }
+    ensures { out.new ≡ sets out.old at (listed five) }
 {
-    events[at] = five.kind;
-    events[at + 1] = five.house;
-    events[at + 2] = five.third;
-    events[at + 3] = five.data;
-    events[at + 4] = five.command;
+    out[at] = five.kind;
+    out[at + 1] = five.house;
+    out[at + 2] = five.third;
+    out[at + 3] = five.data;
+    out[at + 4] = five.command;
 }
 
 // Puts the six bytes of an event that has no message.
@@ -253,16 +215,12 @@ fn put_event(events: &mut [u8], at: usize, e: Event)
 }
 
 // The message that an event gives, if any.
-fn given_by(e: Event) -> Given
+fn given_by(e: Event) -> Option<Message>
     ensures { result ≡ given_by e }
 {
     match e {
-        Event::Nothing => Given::No,
-        Event::Message(m) => Given::Yes(m),
-        Event::Repeat => Given::No,
-        Event::BrokenPair => Given::No,
-        Event::BrokenUnsupported => Given::No,
-        Event::Refused(_) => Given::No,
+        Event::Message(m) => Some(m),
+        _ => None,
     }
 }
 
@@ -276,30 +234,22 @@ fn to_message(r: Receiver, halves: &[u8], from: usize, events: &mut [u8]) -> Ran
     ensures events_after { events.new ≡ sets events.old (6 * from) (flat_map event_bytes (events_of r (to_given r (drop from halves.now)))) }
 {
     let mut current = r;
-    let mut i = from;
-    while i < halves.len() {
+    for i in from..halves.len() {
         let heard = step_valid(current, halves[i]);
-        let event = heard.event;
-        let next = heard.next;
-        put_event(events, 6 * i, event);
-        current = next;
-        i += 1;
-        let given = given_by(event);
-        match given {
-            Given::No => {}
-            Given::Yes(m) => {
-                return Ran {
-                    at: i,
-                    next: next,
-                    given: Given::Yes(m),
-                };
-            }
+        put_event(events, 6 * i, heard.event);
+        current = heard.next;
+        if let Some(m) = given_by(heard.event) {
+            return Ran {
+                at: i + 1,
+                next: current,
+                given: Some(m),
+            };
         }
     }
     Ran {
-        at: i,
+        at: from.max(halves.len()),
         next: current,
-        given: Given::No,
+        given: None,
     }
 }
 
@@ -314,25 +264,23 @@ pub fn run_to_message(r: Receiver, halves: &[u8], from: usize, events: &mut [u8]
 {
     if !valid(r) {
         return Stretch {
-            answer: CountAnswer::Refused(Refusal::State),
+            answer: Err(Refusal::State),
             next: r,
-            given: Given::No,
+            given: None,
         };
     }
     if events.len() / 6 < halves.len() {
         return Stretch {
-            answer: CountAnswer::Refused(Refusal::Short),
+            answer: Err(Refusal::Short),
             next: r,
-            given: Given::No,
+            given: None,
         };
     }
     let ran = to_message(r, halves, from, events);
-    let next = ran.next;
-    let given = ran.given;
     Stretch {
-        answer: CountAnswer::Done(ran.at),
-        next: next,
-        given: given,
+        answer: Ok(ran.at),
+        next: ran.next,
+        given: ran.given,
     }
 }
 
@@ -344,10 +292,10 @@ fn run_all(r: Receiver, halves: &[u8], events: &mut [u8]) -> Receiver
 {
     let mut current = r;
     let mut i: usize = 0;
+    // No counted loop: the place goes on by what a stretch took.
     while i < halves.len() {
         let ran = to_message(current, halves, i, events);
-        let next = ran.next;
-        current = next;
+        current = ran.next;
         i = ran.at;
     }
     current
@@ -356,22 +304,18 @@ fn run_all(r: Receiver, halves: &[u8], events: &mut [u8]) -> Receiver
 // One step for each half-cycle by the receiver in the lent bytes, which then hold the receiver after the last, and six bytes for each
 // event at the front of the lent buffer; the count is of the half-cycles. Refused, it changes nothing. A half-cycle that is not 0 or
 // 1 is no refusal: its event says so, and the next one follows.
-pub fn receive(state: &mut [u8], halves: &[u8], events: &mut [u8]) -> CountAnswer
+pub fn receive(state: &mut [u8], halves: &[u8], events: &mut [u8]) -> Result<usize, Refusal>
     ensures answer { result ≡ receive_answer state.old halves.now (length events.old) }
     ensures report { count_report result ≡ judged (receive_causes state.old halves.now (length events.old))
         (reports (length halves.now ∷ [])) refuses }
     ensures state { state.new ≡ state_after state.old halves.now (length events.old) }
     ensures events { events.new ≡ events_after state.old halves.now events.old }
 {
-    match receiver_in(state) {
-        ReceiverRead::Receiver(r) => {
-            if events.len() / 6 < halves.len() {
-                return CountAnswer::Refused(Refusal::Short);
-            }
-            let next = run_all(r, halves, events);
-            put_bytes(state, next);
-            CountAnswer::Done(halves.len())
-        }
-        ReceiverRead::Refused(_) => CountAnswer::Refused(Refusal::State),
+    let r = receiver_in(state)?;
+    if events.len() / 6 < halves.len() {
+        return Err(Refusal::Short);
     }
+    let next = run_all(r, halves, events);
+    put_bytes(state, next);
+    Ok(halves.len())
 }

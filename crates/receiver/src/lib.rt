@@ -10,17 +10,10 @@ ghost use Rattle.receiver.specs.Receivers.{shifted, bare_at, waiting, hunting, s
 ghost use Rattle.receiver.specs.Receivers.{reading_of, pair_of, broken, read_of, takes_of};
 
 use ground::Refusal;
+use message::Message;
 use message::word::{Reading, read_extended, read_standard};
-use message::{Message, same};
 
 pub mod lent;
-
-// A message or none: that given with the frame before, whose repeat may come next, or that which an event gives.
-#[derive(Clone, Copy)]
-pub enum Given {
-    No,
-    Yes(Message),
-}
 
 // A receiver, handed in and back by value. docs/receiver.md lists what each field may hold.
 #[derive(Clone, Copy)]
@@ -33,10 +26,11 @@ pub struct Receiver {
     pub at: u8,
     // The bits of the pairs that have come, the latest lowest.
     pub bits: u32,
-    pub given: Given,
+    pub given: Option<Message>,
 }
 
-// What a half-cycle says.
+// What a half-cycle says. A refusal is one of six cases here and no `Err`: the receiver stands beside it as it was (`step_of`), and six bytes tell it
+// (`event_bytes`).
 #[derive(Clone, Copy)]
 pub enum Event {
     Nothing,
@@ -104,10 +98,7 @@ pub fn receive(r: &mut Receiver, half: u8) -> Event
 fn saying(event: Event, next: Receiver) -> Heard
     ensures { result ≡ says event next }
 {
-    Heard {
-        event: event,
-        next: next,
-    }
+    Heard { event, next }
 }
 
 // A receiver at a place, with no bits and no message given directly before.
@@ -115,10 +106,10 @@ fn bare(past: u8, at: u8) -> Receiver
     ensures { result ≡ bare_at past at }
 {
     Receiver {
-        past: past,
-        at: at,
+        past,
+        at,
         bits: 0,
-        given: Given::No,
+        given: None,
     }
 }
 
@@ -163,12 +154,12 @@ fn place_fits(at: u8, bits: u32) -> bool
     (bits >> further) % 32 == 15
 }
 
-fn given_valid(given: Given) -> bool
+fn given_valid(given: Option<Message>) -> bool
     ensures { result ≡ given_ok given }
 {
     match given {
-        Given::No => true,
-        Given::Yes(m) => message::valid(m),
+        None => true,
+        Some(m) => message::valid(m),
     }
 }
 
@@ -179,8 +170,7 @@ pub fn valid(r: Receiver) -> bool
     if r.past > 63 {
         return false;
     }
-    let given = r.given;
-    if !given_valid(given) {
+    if !given_valid(r.given) {
         return false;
     }
     place_fits(r.at, r.bits)
@@ -244,30 +234,26 @@ fn awaits(r: Receiver, half: u8) -> Heard
     if half != awaited(r.at) {
         return hunt(r.past, half);
     }
-    let given = r.given;
     saying(
         Event::Nothing,
         Receiver {
             past: shift(r.past, half),
             at: r.at + 1,
             bits: 0,
-            given: given,
+            ..r
         },
     )
 }
 
 // Whether a message is the one just given.
-fn is_repeat(given: Given, m: Message) -> bool
+fn is_repeat(given: Option<Message>, m: Message) -> bool
     ensures { result ≡ is_repeat given m }
 {
-    match given {
-        Given::No => false,
-        Given::Yes(g) => same(g, m),
-    }
+    given == Some(m)
 }
 
 // A frame is complete.
-fn complete(given: Given, m: Message, past: u8) -> Heard
+fn complete(given: Option<Message>, m: Message, past: u8) -> Heard
     ensures { result ≡ complete_of given m past }
 {
     if is_repeat(given, m) {
@@ -276,10 +262,10 @@ fn complete(given: Given, m: Message, past: u8) -> Heard
     saying(
         Event::Message(m),
         Receiver {
-            past: past,
+            past,
             at: 1,
             bits: 0,
-            given: Given::Yes(m),
+            given: Some(m),
         },
     )
 }
@@ -291,10 +277,10 @@ fn reading(at: u8, bits: u32) -> Reading
     ensures { result ≡ reading_of at bits }
 {
     if at == 22 {
-        return read_standard(bits % 512);
+        return read_standard(bits % 512).unwrap();
     }
     if at == 62 {
-        return read_extended(bits % 536870912);
+        return read_extended(bits % 536870912).unwrap();
     }
     Reading::Longer
 }
@@ -304,20 +290,18 @@ fn pair(r: Receiver, bits: u32, past: u8) -> Heard
     requires { (r.at ≤ 62) × (r.at ≡ 62 → bits / 2 ^ 20 % 32 ≡ 15) }
     ensures { result ≡ pair_of r bits past }
 {
-    let given = r.given;
     match reading(r.at, bits) {
-        Reading::Message(m) => complete(given, m, past),
+        Reading::Message(m) => complete(r.given, m, past),
         Reading::Longer => saying(
             Event::Nothing,
             Receiver {
-                past: past,
+                past,
                 at: r.at + 1,
-                bits: bits,
-                given: given,
+                bits,
+                ..r
             },
         ),
         Reading::Unsupported => saying(Event::BrokenUnsupported, waits(past, 0)),
-        Reading::Refused(why) => saying(Event::Refused(why), r),
     }
 }
 
@@ -339,15 +323,13 @@ fn reads(r: Receiver, half: u8) -> Heard
     ensures { result ≡ read_of r half }
 {
     let past = shift(r.past, half);
-    let given = r.given;
     if r.at % 2 == 1 {
         return saying(
             Event::Nothing,
             Receiver {
-                past: past,
+                past,
                 at: r.at + 1,
-                bits: r.bits,
-                given: given,
+                ..r
             },
         );
     }

@@ -3,6 +3,7 @@
 --     one_more_bit       the bits of a word, read one by one
 --     Framed, framed     the record; every valid message has it
 --     pairs_few          no more than nine pairs are never too many
+use Rattle.std.specs.Prelude.{Option}
 use Prim.Native.Nat.{ℕ, zero, suc, ◌+◌, ◌-◌, ◌*◌, ◌/◌, ◌%◌, ◌^◌, ◌≤◌, ◌<◌}
 use mathlib.Core.Logic.{◌⊎◌, inl, inr}
 use mathlib.Core.Path.{◌≡◌, refl, sym, ap, ◌∙◌}
@@ -23,7 +24,6 @@ use Rattle.message.specs.declared.word.Reading.TheVariants.{Message as Says, Lon
 use Rattle.message.proofs.WordLaws.{word_below, head_of_extended, standard_of-head, standard_of-address, standard_of-function, extended_of-word}
 use Rattle.burst.specs.Frames.{frame_length}
 use Rattle.receiver.specs.Receivers.{pair_of, complete_of, says, pairs_ok}
-use Rattle.receiver.specs.declared.Given.{Given}
 use Rattle.receiver.specs.declared.Event.TheVariants.{Nothing}
 use Rattle.receiver_laws.proofs.Steps.{standing}
 
@@ -56,10 +56,10 @@ pub record Framed (m : Message) : Type 0 where
   -- "more pairs than its frame has" is not so before either half-cycle of a pair
   pub pairs : (i a : ℕ) → 7 + 2 * rest ≤ a + 2 * suc i → a + 2 * suc i ≤ 8 + 2 * rest → pairs_ok a (word_of m / 2 ^ suc i) ≡ true
   -- a pair that others follow
-  pub more : (g : Given) (p q i a b : ℕ) → a + 2 * suc (suc i) ≡ 7 + 2 * rest
+  pub more : (g : Option Message) (p q i a b : ℕ) → a + 2 * suc (suc i) ≡ 7 + 2 * rest
       → pair_of (standing g p (a + 1) b) (word_of m / 2 ^ suc i) q ≡ says Nothing (standing g q (a + 1 + 1) (word_of m / 2 ^ suc i))
   -- the last pair
-  pub last : (g : Given) (p q a b : ℕ) → a + 2 ≡ 7 + 2 * rest → pair_of (standing g p (a + 1) b) (word_of m) q ≡ complete_of g m q
+  pub last : (g : Option Message) (p q a b : ℕ) → a + 2 ≡ 7 + 2 * rest → pair_of (standing g p (a + 1) b) (word_of m) q ≡ complete_of g m q
 
 pub pairs_few : (a b : ℕ) → a ≤ 22 → pairs_ok a b ≡ true
 unfolding pairs_ok
@@ -102,7 +102,7 @@ module _ (h u d c : ℕ) (ok : message_ok (Extended h u d c) ≡ true) where
           rw (lt-leb a 22 (omega arith), le-leb a 62 (omega arith), eq-eqb _ _ fifteen)
 
   -- the ninth pair of an extended message says that more follow
-  next_pair : (g : Given) (p q i a b : ℕ) → a + 2 * suc (suc i) ≡ 63
+  next_pair : (g : Option Message) (p q i a b : ℕ) → a + 2 * suc (suc i) ≡ 63
       → pair_of (standing g p (a + 1) b) (w / 2 ^ suc i) q ≡ says Nothing (standing g q (a + 1 + 1) (w / 2 ^ suc i))
   unfolding pair_of
   next_pair g p q i a b e = go (ℕ_discrete a 21)
@@ -114,7 +114,7 @@ module _ (h u d c : ℕ) (ok : message_ok (Extended h u d c) ≡ true) where
           rw (eq-eqb (a + 1) 22 (omega arith), says_so)
       go (no n) = rw (ne_eqb (a + 1) 22 (λ x. omega arith), ne_eqb (a + 1) 62 (λ x. omega arith))
 
-  last_pair : (g : Given) (p q a b : ℕ) → a ≡ 61 → pair_of (standing g p (a + 1) b) w q ≡ complete_of g (Extended h u d c) q
+  last_pair : (g : Option Message) (p q a b : ℕ) → a ≡ 61 → pair_of (standing g p (a + 1) b) w q ≡ complete_of g (Extended h u d c) q
   unfolding pair_of w
   last_pair g p q a b e =
       rw (ne_eqb (a + 1) 22 (λ x. omega arith), eq-eqb (a + 1) 62 (omega arith), extended_of-word h u d c ok)

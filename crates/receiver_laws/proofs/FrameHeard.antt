@@ -6,6 +6,7 @@
 --     Started, Ones, three_ones, ready_starts, awaiting_starts   the start 1 1 1 0
 --     Awaited, awaits_on, awaits_off           a half-cycle of the awaited start, and another
 --     hears_frame, hears_repeat                the frame of a valid message
+use Rattle.std.specs.Prelude.{Option, Some, None}
 use Prim.Native.Nat.{ℕ, zero, suc, ◌+◌, ◌-◌, ◌*◌, ◌/◌, ◌%◌, ◌^◌, ◌≤◌}
 use mathlib.Core.Logic.{◌≢◌}
 use mathlib.Core.Path.{◌≡◌, refl, ap, ◌∙◌}
@@ -23,8 +24,6 @@ use Rattle.message.proofs.CodeLaws.{same_is_equal}
 use Rattle.burst.specs.Frames.{bits_of, pairs_of, frame_of}
 use Rattle.receiver.specs.Receivers.{step_of, pair_of, complete_of, says, hunting, started, broken, is_hunting, waits_on, shifted, receiver_ok, given_ok}
 use Rattle.receiver.proofs.ReceiverLaws.{waits_hunts, valid_waiting}
-use Rattle.receiver.specs.declared.Given.{Given}
-use Rattle.receiver.specs.declared.Given.TheVariants.{No, Yes}
 use Rattle.receiver.specs.declared.Receiver.{Receiver}
 use Rattle.receiver.specs.declared.Event.TheVariants.{Nothing, Message as Gives, Repeat, BrokenPair}
 use Rattle.receiver_laws.specs.Whole.{Ready, frame_events, last_six}
@@ -43,13 +42,13 @@ pub record Before {m : Message} (F : Framed m) (i a p : ℕ) : Type 0 where
   pub within : i ≤ F.rest
   pub six : p ≤ 63
 
-abbrev pub reading : Message → Given → ℕ → ℕ → ℕ → Receiver
+abbrev pub reading : Message → Option Message → ℕ → ℕ → ℕ → Receiver
 reading m g i a p = standing g p a (word_of m / 2 ^ suc i)
 
 abbrev pub bit : Message → ℕ → ℕ
 bit m i = word_of m / 2 ^ i % 2
 
-module _ (m : Message) (F : Framed m) (g : Given) (ok : given_ok g ≡ true) where
+module _ (m : Message) (F : Framed m) (g : Option Message) (ok : given_ok g ≡ true) where
   module _ (i a p : ℕ) (h : Before F i a p) (x : ℕ) (hx : x ≤ 1) where
     valid : (b q : ℕ) → (a ≤ b) × (b ≤ a + 1) × (q ≤ 63) → receiver_ok (reading m g i b q) ≡ true
     valid b q l = standing_ok g q b (word_of m / 2 ^ suc i) ok l.2 (F.pairs i b (omega arith) (omega arith))
@@ -101,7 +100,7 @@ module _ (m : Message) (F : Framed m) (g : Given) (ok : given_ok g ≡ true) whe
 -- ---- the start
 
 -- the start brings r to the pairs, the message given before being g
-abbrev pub Started : Receiver → Given → Type 0
+abbrev pub Started : Receiver → Option Message → Type 0
 Started r g = Run r start (replicate 4 Nothing) (standing g (last_six r.past start) 5 0)
 
 -- three ones, heard in the hunt
@@ -131,7 +130,7 @@ three_ones r v e =
         let waits = later_waits q u f in
         (valid_waiting (shifted q.past 1) (waits_on q.at) (omega arith) waits, waits_hunts (waits_on q.at) waits)
 
-pub ready_starts : (r : Receiver) → Ready r → Started r No
+pub ready_starts : (r : Receiver) → Ready r → Started r None
 unfolding last_six
 ready_starts r h =
     let ones = three_ones r h.valid h.hunts in
@@ -140,7 +139,7 @@ ready_starts r h =
 
 -- a receiver that awaits the second copy of m
 abbrev pub awaiting : Message → ℕ → Receiver
-awaiting m p = standing (Yes m) p 1 0
+awaiting m p = standing (Some m) p 1 0
 
 -- the half-cycle h at the awaited place a, from 1 to 4
 pub record Awaited (p a h : ℕ) : Type 0 where
@@ -151,16 +150,16 @@ pub record Awaited (p a h : ℕ) : Type 0 where
 
 module _ (m : Message) (ok : message_ok m ≡ true) where
   module _ (p a h : ℕ) (w : Awaited p a h) where
-    awaits_ok : receiver_ok (standing (Yes m) p a 0) ≡ true
-    awaits_ok = standing_ok (Yes m) p a 0 ok w.six (pairs_few a 0 (omega arith))
+    awaits_ok : receiver_ok (standing (Some m) p a 0) ≡ true
+    awaits_ok = standing_ok (Some m) p a 0 ok w.six (pairs_few a 0 (omega arith))
 
-    pub awaits_on : h ≡ pick (leb a 3) 1 0 → step_of (standing (Yes m) p a 0) h ≡ says Nothing (standing (Yes m) (shifted p h) (a + 1) 0)
-    awaits_on e = step_wanted (Yes m) p a 0 h awaits_ok w.half w.low w.high e
+    pub awaits_on : h ≡ pick (leb a 3) 1 0 → step_of (standing (Some m) p a 0) h ≡ says Nothing (standing (Some m) (shifted p h) (a + 1) 0)
+    awaits_on e = step_wanted (Some m) p a 0 h awaits_ok w.half w.low w.high e
 
-    pub awaits_off : h ≢ pick (leb a 3) 1 0 → NoStart p 0 h → step_of (standing (Yes m) p a 0) h ≡ says Nothing (hunting (shifted p h))
-    awaits_off e n = step_unwanted (Yes m) p a 0 h awaits_ok w.half w.low w.high e n
+    pub awaits_off : h ≢ pick (leb a 3) 1 0 → NoStart p 0 h → step_of (standing (Some m) p a 0) h ≡ says Nothing (hunting (shifted p h))
+    awaits_off e n = step_unwanted (Some m) p a 0 h awaits_ok w.half w.low w.high e n
 
-  pub awaiting_starts : (p : ℕ) → p ≤ 63 → Started (awaiting m p) (Yes m)
+  pub awaiting_starts : (p : ℕ) → p ≤ 63 → Started (awaiting m p) (Some m)
   unfolding last_six
   awaiting_starts p hp =
       let p₁ = shifted p 1 in
@@ -170,12 +169,12 @@ module _ (m : Message) (ok : message_ok m ≡ true) where
       (run_more (awaits_on p₁ 2 1 (omega arith) refl)
       (run_more (awaits_on p₂ 3 1 (omega arith) refl)
       (run_more (awaits_on p₃ 4 0 (omega arith) refl)
-      (run_none (standing (Yes m) (shifted p₃ 0) 5 0)))))
+      (run_none (standing (Some m) (shifted p₃ 0) 5 0)))))
 
 -- ---- the whole frame
 
 module _ (m : Message) (F : Framed m) (ok : message_ok m ≡ true) where
-  hears_whole : (r : Receiver) (g : Given) → given_ok g ≡ true → Started r g
+  hears_whole : (r : Receiver) (g : Option Message) → given_ok g ≡ true → Started r g
       → let heard = complete_of g m (last_six r.past (frame_of m)) in
       Run r (frame_of m) (frame_events m heard.event) heard.next
   unfolding frame_of frame_events last_six
@@ -184,16 +183,16 @@ module _ (m : Message) (F : Framed m) (ok : message_ok m ≡ true) where
       let begins : Before F F.rest 5 p = omega arith in
       rw (F.count, F.lead) (run-append s (rw F.none at (hears_pairs m F g hg F.rest 5 p begins)))
 
-  pub hears_started : (r : Receiver) → Started r No → Run r (frame_of m) (frame_events m (Gives m)) (awaiting m (last_six r.past (frame_of m)))
+  pub hears_started : (r : Receiver) → Started r None → Run r (frame_of m) (frame_events m (Gives m)) (awaiting m (last_six r.past (frame_of m)))
   unfolding complete_of
-  hears_started r s = hears_whole r No refl s
+  hears_started r s = hears_whole r None refl s
 
   pub hears_frame : (r : Receiver) → Ready r → Run r (frame_of m) (frame_events m (Gives m)) (awaiting m (last_six r.past (frame_of m)))
   unfolding complete_of
-  hears_frame r h = hears_whole r No refl (ready_starts r h)
+  hears_frame r h = hears_whole r None refl (ready_starts r h)
 
   pub hears_repeat : (p : ℕ) → p ≤ 63 → Run (awaiting m p) (frame_of m) (frame_events m Repeat) (hunting (last_six p (frame_of m)))
   unfolding complete_of
   hears_repeat p hp =
       rw ((same_is_equal m m).1 refl)
-      at (hears_whole (awaiting m p) (Yes m) ok (awaiting_starts m ok p hp))
+      at (hears_whole (awaiting m p) (Some m) ok (awaiting_starts m ok p hp))

@@ -9,6 +9,7 @@
 --     Opens, loses_frame         an inversion in a copy's frame
 --     broken_first, broken_last, missed_first, missed_last      what follows after it, in the first copy and in the second
 --     one_inversion, exactly_once, inverted_starts              the theorems of specs/Inversion.antt
+use Rattle.std.specs.Prelude.{Option, Some, None}
 use Prim.Native.Nat.{ℕ, zero, suc, ◌+◌, ◌-◌, ◌*◌, ◌/◌, ◌%◌, ◌^◌, ◌≤◌, ◌<◌, suc-le-suc}
 use mathlib.Core.Logic.{◌≢◌, ◌⊎◌, inl, inr, ⊎_elim}
 use mathlib.Core.Path.{◌≡◌, refl, sym, ap, ap₂, ◌∙◌}
@@ -25,11 +26,9 @@ use Rattle.message.specs.Messages.{message_ok}
 use Rattle.message.specs.Words.{word_of, bit_count}
 use Rattle.message.specs.declared.Message.{Message}
 use Rattle.message.specs.declared.Message.TheVariants.{Address, Function as Command, Extended}
-use Rattle.burst.specs.Frames.{frame_length, bits_of, pairs_of, frame_of, burst_of}
+use Rattle.burst.specs.Frames.{bits_of, pairs_of, frame_of, burst_of}
 use Rattle.receiver.specs.Receivers.{near, far, waiting, hunting, broken, shifted, given_ok, fresh_receiver}
 use Rattle.receiver.specs.Hearing.{events_of}
-use Rattle.receiver.specs.declared.Given.{Given}
-use Rattle.receiver.specs.declared.Given.TheVariants.{No, Yes}
 use Rattle.receiver.specs.declared.Receiver.{Receiver}
 use Rattle.receiver.specs.declared.Event.TheVariants.{Nothing, Message as Gives}
 use Rattle.receiver_laws.specs.Whole.{clear, Ready, last_six}
@@ -62,11 +61,11 @@ inverted_append (h ∷ hs) ks (suc i) l =
     (inverted_append hs ks i (le_of_suc-le-suc l))
 
 -- a receiver that a start brings to the pairs, and that hunts after a start with one half-cycle inverted
-record Opens (r : Receiver) (g : Given) : Type 0 where
+record Opens (r : Receiver) (g : Option Message) : Type 0 where
   starts : Started r g
   loses : (i : ℕ) → i < 4 → Run r (inverted i start) (replicate (length (inverted i start)) Nothing) (hunting (last_six r.past (inverted i start)))
 
-hunting_opens : (p : ℕ) → p ≤ 63 → Ready (hunting p) → Opens (hunting p) No
+hunting_opens : (p : ℕ) → p ≤ 63 → Ready (hunting p) → Opens (hunting p) None
 hunting_opens p hp h =
     let steady : Steady p = omega arith in
     record { starts = ready_starts (hunting p) h; loses = λ i l. hush_run (inverted i start) p hp (hush_start i p l steady) }
@@ -98,7 +97,7 @@ module _ (m : Message) (ok : message_ok m ≡ true) where
       (run_more (awaits_off m ok p₃ 4 1 (omega arith) (omega arith) u.2.2.2.1) (run_none (hunting (shifted p₃ 1))))))
   awaiting_loses (suc (suc (suc (suc i)))) p l hp u = absurd (omega arith)
 
-  awaiting_opens : (p : ℕ) → Clean p → Opens (awaiting m p) (Yes m)
+  awaiting_opens : (p : ℕ) → Clean p → Opens (awaiting m p) (Some m)
   awaiting_opens p c =
       let steady : Steady p = omega arith in
       record { starts = awaiting_starts m ok p c.six; loses = λ i l. awaiting_loses i p l c.six (hush_start i p l steady) }
@@ -114,7 +113,7 @@ module _ (m : Message) (ok : message_ok m ≡ true) where
 -- ---- an inversion in one copy's frame
 
 -- ms are the messages that ks gives after a copy with an inversion
-module _ (m : Message) (F : Framed m) (g : Given) (hg : given_ok g ≡ true) (ms : List Message) (ks : List ℕ) where
+module _ (m : Message) (F : Framed m) (g : Option Message) (hg : given_ok g ≡ true) (ms : List Message) (ks : List ℕ) where
   -- after an equal pair: the i pairs that are left, while a start is waited for
   abbrev Broke : Type 0
   Broke = (q k a i : ℕ) → Between q k a → k + 2 * i ≡ 6 + 2 * F.rest → tells (waiting q a) (pairs_of (bits_of i (word_of m)) ++ ks) ≡ ms
@@ -284,14 +283,14 @@ module _ (m : Message) (ok : message_ok m ≡ true) (y : ℕ) where
       ⊎_elim
       (λ x. ap join x.1
       ∙ ap (tells (hunting p)) (append_assoc (inverted i frame) frame (clear y))
-      ∙ loses_frame m F No refl (given i) (frame ++ clear y) (hunting p) (hunting_opens p hp h) i x.0
+      ∙ loses_frame m F None refl (given i) (frame ++ clear y) (hunting p) (hunting_opens p hp h) i x.0
       (λ b q k a j B e. broken_first q k a j B e ∙ sym (given_beyond i b)) (λ s q c. missed_first q c ∙ sym (given_lost i s)))
       (λ x. let beyond : 4 ≤ i = omega (arith, x.3, frame_four m) in
       ap join x.2
       ∙ ap (tells (hunting p)) (append_assoc frame (inverted x.0 frame) (clear y))
       ∙ tells_run (inverted x.0 frame ++ clear y) (hears_frame m F ok (hunting p) h)
       ∙ ap₂ ◌++◌ (told_frame m (Gives m))
-      (loses_frame m F (Yes m) ok [] (clear y) (awaiting m q) (awaiting_opens m ok q (clean_frame m p)) x.0 x.1 (λ b. broken_last) (λ s. missed_last))
+      (loses_frame m F (Some m) ok [] (clear y) (awaiting m q) (awaiting_opens m ok q (clean_frame m p)) x.0 x.1 (λ b. broken_last) (λ s. missed_last))
       ∙ sym (given_beyond i beyond))
       (inverted_append frame frame i l)
 

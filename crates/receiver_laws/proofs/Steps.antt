@@ -5,8 +5,9 @@
 --     later, hunts_on, hunts_start, hunts_waited                hunting, without a start, with one, and with that which is waited for
 --     step_wanted, step_unwanted               awaiting: the half-cycle that must come, and another
 --     step_first, step_second, step_equal      in the pairs: a pair's first half-cycle, and its second, different or equal
+use Rattle.std.specs.Prelude.{Option, None}
 use Prim.Native.Nat.{ℕ, ◌+◌, ◌*◌, ◌%◌, ◌^◌, ◌≤◌}
-use mathlib.Core.Logic.{◌≢◌, ◌⊎◌, inl, inr, ⊎_elim}
+use mathlib.Core.Logic.{◌≢◌, ◌⊎◌, ⊎_elim}
 use mathlib.Core.Path.{◌≡◌, refl, ◌∙◌}
 use mathlib.Core.Bool.{true, false, ◌&&◌, ◌||◌, and-false, or-true}
 use native.Mathlib.Decide.{ℕ_discrete}
@@ -15,24 +16,23 @@ use borrow.Author.Tests.{le-leb, lt-leb, eq-eqb, ne_eqb}
 use lib.Dec.{eqb, leb}
 use Rattle.ground.specs.Choice.{pick}
 use Rattle.ground.specs.Refusals.{judged}
+use Rattle.message.specs.declared.Message.{Message}
 use Rattle.receiver.specs.Receivers.{step_of, takes_of, hunt_of, await_of, read_of, pair_of, says, waiting, hunting, started, broken, shifted}
 use Rattle.receiver.specs.Receivers.{start_hunted, start_waited, waits_on, is_hunting, receiver_ok, pairs_ok, given_ok}
 use Rattle.receiver.proofs.ReceiverLaws.{hunts_not}
-use Rattle.receiver.specs.declared.Given.{Given}
-use Rattle.receiver.specs.declared.Given.TheVariants.{No}
 use Rattle.receiver.specs.declared.Receiver.{Receiver}
 use Rattle.receiver.specs.declared.Event.TheVariants.{Nothing, BrokenPair}
 
-abbrev pub standing : Given → ℕ → ℕ → ℕ → Receiver
+abbrev pub standing : Option Message → ℕ → ℕ → ℕ → Receiver
 standing given past at bits = record { past = past; at = at; bits = bits; given = given }
 
-pub standing_ok : (g : Given) (p a b : ℕ) → given_ok g ≡ true → p ≤ 63 → pairs_ok a b ≡ true → receiver_ok (standing g p a b) ≡ true
+pub standing_ok : (g : Option Message) (p a b : ℕ) → given_ok g ≡ true → p ≤ 63 → pairs_ok a b ≡ true → receiver_ok (standing g p a b) ≡ true
 unfolding receiver_ok
 standing_ok g p a b hg hp hb = rw (le-leb p 63 hp, hb, hg)
 
 pub hunting_ok : (p : ℕ) → p ≤ 63 → receiver_ok (hunting p) ≡ true
 unfolding pairs_ok
-hunting_ok p hp = standing_ok No p 0 0 refl hp refl
+hunting_ok p hp = standing_ok None p 0 0 refl hp refl
 
 step_valid : (r : Receiver) (h : ℕ) → receiver_ok r ≡ true → h ≤ 1 → step_of r h ≡ takes_of r h
 unfolding step_of judged
@@ -88,7 +88,7 @@ module _ (r : Receiver) (v : receiver_ok r ≡ true) (e : is_hunting r.at ≡ tr
 
 -- ---- awaiting and in the pairs
 
-module _ (g : Given) (p a b h : ℕ) (v : receiver_ok (standing g p a b) ≡ true) (hh : h ≤ 1) where
+module _ (g : Option Message) (p a b h : ℕ) (v : receiver_ok (standing g p a b) ≡ true) (hh : h ≤ 1) where
   module _ (low : 1 ≤ a) (high : a ≤ 4) where
     awaits : step_of (standing g p a b) h ≡ await_of (standing g p a b) h
     unfolding takes_of

@@ -4,21 +4,21 @@
 --     Waited, pairs_waited        pairs begin no frame, and the waiting goes on
 --     ends_at, waited_starts      where the copy ends, the other's start is the one that is waited for
 --     between_rests, rests_tells  clear half-cycles begin no frame
+use Rattle.std.specs.Prelude.{None}
 use Prim.Native.Nat.{ℕ, zero, suc, ◌+◌, ◌-◌, ◌*◌, ◌%◌, ◌≤◌, ◌<◌}
 use mathlib.Core.Logic.{◌≢◌, ◌⊎◌, inl, inr, ⊎_elim}
 use mathlib.Core.Path.{◌≡◌, refl, ap, subst, ◌∙◌}
 use mathlib.Core.Bool.{true}
-use mathlib.Core.List.{List, [], ◌∷◌, ◌++◌}
+use mathlib.Core.List.{List, [], ◌∷◌}
 use native.Mathlib.Decide.{dec_le, ℕ_discrete}
 use native.Mathlib.Omega.{arith}
 use borrow.Author.Tests.{le-leb, lt-leb}
-use lib.Dec.{leb, lit≤}
+use lib.Dec.{leb}
 use lib.ListN.{length, replicate}
 use Rattle.ground.specs.Choice.{pick}
 use Rattle.burst.specs.Frames.{pairs_of}
 use Rattle.receiver.specs.Receivers.{step_of, says, near, far, waiting, started, waiting_ok, waits_on, shifted}
 use Rattle.receiver.specs.Hearing.{events_of}
-use Rattle.receiver.specs.declared.Given.TheVariants.{No}
 use Rattle.receiver.specs.declared.Receiver.{Receiver}
 use Rattle.receiver.specs.declared.Event.TheVariants.{Nothing}
 use Rattle.receiver.proofs.ReceiverLaws.{waits_range, near_ok, far_ok, waits_some, waits_hunts, waits_more, waits_broken, valid_waiting}
@@ -26,7 +26,7 @@ use Rattle.receiver_laws.specs.Whole.{clear, last_six}
 use Rattle.receiver_laws.specs.Inversion.{told}
 use Rattle.receiver_laws.proofs.Runs.{Run, run_none, run_more, run-append}
 use Rattle.receiver_laws.proofs.Steps.{NoStart, no_start_one, no_start_past, later, hunts_on, hunts_waited}
-use Rattle.receiver_laws.proofs.Pasts.{start, paired, two_more, three_more, Bits, Clean}
+use Rattle.receiver_laws.proofs.Pasts.{paired, two_more, three_more, Bits, Clean}
 use Rattle.receiver_laws.proofs.Hush.{Calm, calm_pair, calm_equal}
 use Rattle.receiver_laws.proofs.FrameHeard.{Started, three_ones}
 use Rattle.receiver_laws.proofs.Rests.{Rests, rested, rests_step, rests_next}
@@ -172,7 +172,7 @@ fourth_at : (a : ℕ) → (a ≡ near 22) ⊎ (a ≡ far 62) → let b = waits_o
 fourth_at a (inl e) = inl (rw e refl)
 fourth_at a (inr e) = inr (rw e refl)
 
-pub waited_starts : (p a : ℕ) → p ≤ 63 → waiting_ok a ≡ true → (a ≡ near 22) ⊎ (a ≡ far 62) → Started (waiting p a) No
+pub waited_starts : (p a : ℕ) → p ≤ 63 → waiting_ok a ≡ true → (a ≡ near 22) ⊎ (a ≡ far 62) → Started (waiting p a) None
 unfolding last_six
 waited_starts p a hp w e =
     let waits = waits_some w in

@@ -5,12 +5,12 @@
 --     led_to, led_only        LeadsTo each that is let pass, and no other
 --     unsupported_hunts       BROKEN 11 leads to none
 --     waitings_right          WaitingsRight
+use Rattle.std.specs.Prelude.{Option, Some, None}
 use Prim.Native.Nat.{ℕ, zero, suc, ◌+◌, ◌-◌, ◌%◌, ◌≤◌, ◌<◌}
-use mathlib.Core.Logic.{◌≢◌, ◌⊎◌, ⊎_elim, ◌↔◌}
+use mathlib.Core.Logic.{◌≢◌, ⊎_elim, ◌↔◌}
 use mathlib.Core.Path.{◌≡◌, refl, sym, ap, subst, ◌∙◌}
 use mathlib.Core.Bool.{Bool, true, false, and-true}
 use mathlib.Core.List.{List, [], ◌∷◌, ◌++◌}
-use native.Mathlib.Decide.{ℕ_discrete}
 use native.Mathlib.Omega.{arith}
 use borrow.Author.Tests.{le-leb, lt-leb}
 use lib.Dec.{leb}
@@ -21,15 +21,12 @@ use Rattle.message.specs.Codes.{meaning_of, meanings}
 use Rattle.message.specs.Words.{standard_of, extended_of}
 use Rattle.message.specs.declared.Message.{Message}
 use Rattle.message.specs.declared.word.Reading.{Reading}
-use Rattle.message.specs.declared.word.Reading.TheVariants.{Message as Says, Longer, Unsupported, Refused as NotRead}
+use Rattle.message.specs.declared.word.Reading.TheVariants.{Message as Says, Longer, Unsupported}
 use Rattle.receiver.specs.Receivers.{fresh_receiver, near, far, receiver_ok, pairs_ok, given_ok, waiting_ok, waiting, shifted}
 use Rattle.receiver.specs.Receivers.{step_of, takes_of, hunt_of, read_of, is_repeat, complete_of, outcome_of, bits_after, pair_of, hunting, says}
 use Rattle.receiver.specs.Hearing.{receiver_after}
-use Rattle.receiver.specs.declared.Given.{Given}
-use Rattle.receiver.specs.declared.Given.TheVariants.{No, Yes}
 use Rattle.receiver.specs.declared.Receiver.{Receiver}
 use Rattle.receiver.specs.declared.Heard.{Heard}
-use Rattle.receiver.specs.declared.Event.{Event}
 use Rattle.receiver.specs.declared.Event.TheVariants.{Nothing, Message as Gives, Repeat, BrokenPair, BrokenUnsupported, Refused}
 use Rattle.receiver.proofs.ReceiverLaws.{hunts_waiting, waits_range, near_ok, far_ok, waits_some, waits_hunts, waits_more}
 use Rattle.receiver.proofs.ReceiverLaws.{Taken, hunted, lapsed, awaited, first, equal, ninth, last, paired, taken}
@@ -89,30 +86,30 @@ breaks_first : step_of (receiver_after fresh_receiver first_pair) 0 ≡ says Bro
 unfolding receiver_after first_pair step_of judged receiver_ok pairs_ok takes_of hunt_of read_of
 breaks_first = refl
 
-after_found : receiver_after fresh_receiver found ≡ standing No 14 5 0
+after_found : receiver_after fresh_receiver found ≡ standing None 14 5 0
 unfolding receiver_after found step_of judged receiver_ok pairs_ok takes_of hunt_of
 after_found = refl
 
-after_house : receiver_after (standing No 14 5 0) house ≡ standing No 21 13 0
+after_house : receiver_after (standing None 14 5 0) house ≡ standing None 21 13 0
 unfolding receiver_after house step_of judged receiver_ok pairs_ok takes_of read_of pair_of
 after_house = refl
 
-after_code : receiver_after (standing No 21 13 0) code ≡ standing No 42 21 7
+after_code : receiver_after (standing None 21 13 0) code ≡ standing None 42 21 7
 unfolding receiver_after code step_of judged receiver_ok pairs_ok takes_of read_of pair_of
 after_code = refl
 
-after_function : receiver_after (standing No 42 21 7) function ≡ standing No 20 24 15
+after_function : receiver_after (standing None 42 21 7) function ≡ standing None 20 24 15
 unfolding receiver_after function step_of judged receiver_ok pairs_ok takes_of read_of pair_of standard_of meaning_of meanings
 after_function = refl
 
-after_tenth : receiver_after fresh_receiver tenth_pair ≡ standing No 20 24 15
+after_tenth : receiver_after fresh_receiver tenth_pair ≡ standing None 20 24 15
 unfolding tenth_pair
 after_tenth =
     after-append fresh_receiver found (house ++ (code ++ function))
     ∙ ap (λ (r : Receiver). receiver_after r (house ++ (code ++ function))) after_found
-    ∙ after-append (standing No 14 5 0) house (code ++ function)
+    ∙ after-append (standing None 14 5 0) house (code ++ function)
     ∙ ap (λ (r : Receiver). receiver_after r (code ++ function)) after_house
-    ∙ after-append (standing No 21 13 0) code function
+    ∙ after-append (standing None 21 13 0) code function
     ∙ ap (λ (r : Receiver). receiver_after r function) after_code
     ∙ after_function
 
@@ -175,11 +172,11 @@ led_only from at over d =
 silent : Nothing ≡ BrokenUnsupported → ⊥
 silent e = let z : ◌≡◌ {A = ℕ} 0 1 = cc in omega arith
 
-unsupported_complete : (g : Given) (m : Message) (past : ℕ) → (complete_of g m past).event ≡ BrokenUnsupported → ⊥
+unsupported_complete : (g : Option Message) (m : Message) (past : ℕ) → (complete_of g m past).event ≡ BrokenUnsupported → ⊥
 unfolding complete_of
 unsupported_complete g m past e = go (is_repeat g m) e
   where
-    go : (b : Bool) → (pick b (says Repeat (hunting past)) (says (Gives m) (record { past = past; at = 1; bits = 0; given = Yes m }))).event ≡ BrokenUnsupported
+    go : (b : Bool) → (pick b (says Repeat (hunting past)) (says (Gives m) (record { past = past; at = 1; bits = 0; given = Some m }))).event ≡ BrokenUnsupported
         → ⊥
     go true q = let z : ◌≡◌ {A = ℕ} 0 1 = cc in omega arith
     go false q = let z : ◌≡◌ {A = ℕ} 0 1 = cc in omega arith
@@ -189,7 +186,6 @@ unsupported_outcome : (r : Receiver) (bits past : ℕ) (x : Reading) → (outcom
 unsupported_outcome r bits past (Says m) e = absurd (unsupported_complete r.given m past e)
 unsupported_outcome r bits past Longer e = absurd (silent e)
 unsupported_outcome r bits past Unsupported e = refl
-unsupported_outcome r bits past (NotRead why) e = absurd (let z : ◌≡◌ {A = ℕ} 0 1 = cc in omega arith)
 
 unsupported_taken : (r : Receiver) (h : ℕ) {o : Heard} → Taken r h o → o.event ≡ BrokenUnsupported → o.next.at ≡ 0
 unfolding hunt_of

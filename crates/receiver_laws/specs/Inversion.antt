@@ -2,15 +2,13 @@
 -- its half-cycles inverted, then clear ones. It gives MESSAGE at most once, and only with that burst's message." 02, A2: "01's property then says more:
 -- an inversion anywhere in a pair of either copy gives MESSAGE exactly once, with that message. Inverted starts keep the old 'at most once'." The
 -- theorems: proofs/Inversion.antt.
-use Rattle.std.specs.Prelude.{ℕ, ◌-◌, ◌%◌, ◌≤◌, ◌<◌, ◌⊎◌, ◌≡◌, true, List, [], ◌∷◌, ◌++◌, length, get_or, set}
+use Rattle.std.specs.Prelude.{ℕ, ◌-◌, ◌%◌, ◌≤◌, ◌<◌, ◌⊎◌, ◌≡◌, true, List, [], ◌∷◌, ◌++◌, length, get_or, set, Option, Some, None}
 use Rattle.message.specs.Messages.{message_ok}
 use Rattle.message.specs.declared.Message.{Message}
 use Rattle.burst.specs.Frames.{frame_length, burst_of}
 use Rattle.receiver.specs.Receivers.{fresh_receiver}
 use Rattle.receiver.specs.Hearing.{events_of, given_by}
 use Rattle.receiver.specs.declared.Event.{Event}
-use Rattle.receiver.specs.declared.Given.{Given}
-use Rattle.receiver.specs.declared.Given.TheVariants.{No, Yes}
 use Rattle.receiver_laws.specs.Whole.{clear}
 
 -- the half-cycle at i inverted, the others as they are
@@ -18,9 +16,9 @@ unfoldable pub inverted : ℕ → List ℕ → List ℕ
 inverted i hs = set hs i (1 - get_or hs i 0)
 
 -- the messages given, one after the other
-abbrev pub as_list : Given → List Message
-as_list No = []
-as_list (Yes m) = m ∷ []
+abbrev pub as_list : Option Message → List Message
+as_list None = []
+as_list (Some m) = m ∷ []
 
 unfoldable pub told : List Event → List Message
 told [] = []

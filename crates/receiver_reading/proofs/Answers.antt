@@ -7,6 +7,7 @@
 --     step_told, valid, fresh_stood                   one half-cycle, by what a single call gives; the state is valid; no half-cycle
 --     hunt_told, start_told                           hunting, without a start and with one
 --     first_told, equal_told, pair_told               a pair's first half-cycle, an equal pair, a pair of different half-cycles
+use Rattle.std.specs.Prelude.{Option, None}
 use Prim.Native.Nat.{ℕ, ◌+◌, ◌-◌, ◌*◌, ◌%◌, ◌^◌, ◌≤◌, ◌<◌}
 use mathlib.Core.Path.{◌≡◌, refl, sym, ap, subst, ◌∙◌}
 use mathlib.Core.Bool.{true}
@@ -16,10 +17,9 @@ use native.Mathlib.Omega.{arith}
 use borrow.Author.Tests.{le-leb, lt-leb}
 use Rattle.ground.specs.Refusals.{judged}
 use Rattle.ground.specs.declared.Refusal.TheVariants as refusal
+use Rattle.message.specs.declared.Message.{Message}
 use Rattle.receiver.specs.Receivers.{step_of, takes_of, hunt_of, says, waiting, broken, waits_on, is_hunting, shifted, receiver_ok, fresh_receiver, pair_of}
 use Rattle.receiver.specs.Hearing.{receiver_after, taken}
-use Rattle.receiver.specs.declared.Given.{Given}
-use Rattle.receiver.specs.declared.Given.TheVariants.{No}
 use Rattle.receiver.specs.declared.Receiver.{Receiver}
 use Rattle.receiver.specs.declared.Event.{Event}
 use Rattle.receiver.specs.declared.Event.TheVariants.{Nothing, BrokenPair, Refused}
@@ -99,11 +99,11 @@ state_taken r (h ∷ hs) = go (λ s. state_taken s hs) (dec_le h 1)
 abbrev pub Told : List ℕ → (ℕ → Heard) → Type 0
 Told hs f = answer hs ≡ f (past_of hs)
 
-abbrev pub Stood : List ℕ → Given → ℕ → ℕ → Type 0
+abbrev pub Stood : List ℕ → Option Message → ℕ → ℕ → Type 0
 Stood hs g a w = state hs ≡ standing g (past_of hs) a w
 
 -- nothing is said, and so the receiver stands
-abbrev pub goes : Given → ℕ → ℕ → ℕ → Heard
+abbrev pub goes : Option Message → ℕ → ℕ → ℕ → Heard
 goes g a w p = says Nothing (standing g p a w)
 
 -- the frame ends and the receiver hunts, `at` as given
@@ -116,38 +116,38 @@ told_stands hs f t = ap (λ (o : Heard). o.next) t
 pub told_by : (f : ℕ → Heard) {xs ys : List ℕ} → xs ≡ ys → Told xs f → Told ys f
 told_by f e t = subst (λ (l : List ℕ). Told l f) e t
 
-pub stood_by : (g : Given) (a w : ℕ) {xs ys : List ℕ} → xs ≡ ys → Stood xs g a w → Stood ys g a w
+pub stood_by : (g : Option Message) (a w : ℕ) {xs ys : List ℕ} → xs ≡ ys → Stood xs g a w → Stood ys g a w
 stood_by g a w e s = subst (λ (l : List ℕ). Stood l g a w) e s
 
-module _ (hs : List ℕ) (g : Given) (a w : ℕ) (s : Stood hs g a w) where
+module _ (hs : List ℕ) (g : Option Message) (a w : ℕ) (s : Stood hs g a w) where
   pub step_told : (h : ℕ) (f : ℕ → Heard) → step_of (standing g (past_of hs) a w) h ≡ f (shifted (past_of hs) h) → Told (hs ++ h ∷ []) f
   step_told h f e = answer_more hs h ∙ ap (λ (r : Receiver). step_of r h) s ∙ e ∙ ap f (sym (six_more hs h))
 
   pub valid : receiver_ok (standing g (past_of hs) a w) ≡ true
   valid = valid_state hs (standing g (past_of hs) a w) s
 
-pub fresh_stood : Stood [] No 0 0
+pub fresh_stood : Stood [] None 0 0
 unfolding last_six answer answered
 fresh_stood = refl
 
 -- ---- hunting
 
-module _ (hs : List ℕ) (a : ℕ) (s : Stood hs No a 0) (t : is_hunting a ≡ true) where
-  pub hunt_told : (h : ℕ) → h ≤ 1 → NoStart (past_of hs) a h → Told (hs ++ h ∷ []) (goes No (waits_on a) 0)
-  hunt_told h l n = step_told hs No a 0 s h (goes No (waits_on a) 0) (hunts_on (waiting (past_of hs) a) (valid hs No a 0 s) t h l n)
+module _ (hs : List ℕ) (a : ℕ) (s : Stood hs None a 0) (t : is_hunting a ≡ true) where
+  pub hunt_told : (h : ℕ) → h ≤ 1 → NoStart (past_of hs) a h → Told (hs ++ h ∷ []) (goes None (waits_on a) 0)
+  hunt_told h l n = step_told hs None a 0 s h (goes None (waits_on a) 0) (hunts_on (waiting (past_of hs) a) (valid hs None a 0 s) t h l n)
 
   -- a start is found, the hunted one or that which is waited for
-  pub start_told : (h : ℕ) → h ≤ 1 → Found (past_of hs) a h → Told (hs ++ h ∷ []) (goes No 5 0)
+  pub start_told : (h : ℕ) → h ≤ 1 → Found (past_of hs) a h → Told (hs ++ h ∷ []) (goes None 5 0)
   unfolding step_of judged takes_of hunt_of
-  start_told h l f = step_told hs No a 0 s h (goes No 5 0) (rw (le-leb h 1 l, valid hs No a 0 s, t, f))
+  start_told h l f = step_told hs None a 0 s h (goes None 5 0) (rw (le-leb h 1 l, valid hs None a 0 s, t, f))
 
 -- ---- the pairs
 
 -- what a pair of different half-cycles brings, the first of them x
-abbrev pub brings : List ℕ → Given → ℕ → ℕ → ℕ → ℕ → Heard
+abbrev pub brings : List ℕ → Option Message → ℕ → ℕ → ℕ → ℕ → Heard
 brings hs g n w x p = pair_of (standing g (past_of (hs ++ x ∷ [])) (5 + 2 * n + 1) w) (w * 2 + x) p
 
-module _ (hs : List ℕ) (g : Given) (n w : ℕ) (s : Stood hs g (5 + 2 * n) w) (most : n ≤ 28) (x : ℕ) (l : x ≤ 1) where
+module _ (hs : List ℕ) (g : Option Message) (n w : ℕ) (s : Stood hs g (5 + 2 * n) w) (most : n ≤ 28) (x : ℕ) (l : x ≤ 1) where
   pub first_told : Told (hs ++ x ∷ []) (goes g (5 + 2 * n + 1) w)
   first_told =
       step_told hs g (5 + 2 * n) w s x (goes g (5 + 2 * n + 1) w)

@@ -6,6 +6,7 @@
 --     reached                           every history's state is one of these
 --     short, opens, gives, begun_by     the short histories
 --     reachable_states                  the theorem of specs/Reachable.antt
+use Rattle.std.specs.Prelude.{Option, Some, None}
 use Prim.Native.Nat.{ℕ, zero, suc, ◌+◌, ◌*◌, ◌/◌, ◌%◌, ◌≤◌}
 use mathlib.Core.Path.{◌≡◌, refl, sym, ap, subst, ◌∙◌}
 use mathlib.Core.Bool.{true, false≢true}
@@ -22,8 +23,6 @@ use Rattle.burst.specs.Frames.{bits_of, frame_of}
 use Rattle.burst.proofs.FrameLaws.{bits_length, frame_length_lem}
 use Rattle.receiver.specs.Receivers.{fresh_receiver, waiting, hunting, step_of, takes_of, hunt_of, read_of, receiver_ok, pairs_ok}
 use Rattle.receiver.specs.Hearing.{receiver_after}
-use Rattle.receiver.specs.declared.Given.{Given}
-use Rattle.receiver.specs.declared.Given.TheVariants.{No, Yes}
 use Rattle.receiver.specs.declared.Receiver.{Receiver}
 use Rattle.receiver.specs.declared.Event.TheVariants.{Message as Gives}
 use Rattle.receiver_laws.specs.Whole.{last_six}
@@ -62,12 +61,12 @@ unfolding last_six
 two_six a b l = two_more 63 a b l
 
 -- a frame's beginning, with the same last six half-cycles
-record Begun (g : Given) (hs : List ℕ) : Type 0 where
+record Begun (g : Option Message) (hs : List ℕ) : Type 0 where
   pub ks : List ℕ
   pub beginning : Beginning g ks
   pub six : past_of hs ≡ past_of ks
 
-begun_is : {g : Given} {hs : List ℕ} → At (begun g) hs → Begun g hs
+begun_is : {g : Option Message} {hs : List ℕ} → At (begun g) hs → Begun g hs
 begun_is (awaited-at {hs} {m} a) =
     record { ks = frame_of m ++ start_mark; beginning = awaited m (valid_message a); six = six_after hs (frame_of m) start_mark (await_is a) }
 begun_is (hunted-at {hs} h at s) =
@@ -93,7 +92,7 @@ reached (place.idles {hs} {o} at) = go (ℕ_discrete (place_of o (length hs)) 0)
     go (yes z) = reach_by (ap (waiting (past_of hs)) z) (hunts (past_of hs) (six_low hs (at_bits at)))
     go (no n) = waits at n
 reached (place.awaits {hs} {m} k at l) =
-    reach_by (ap (λ (p : ℕ). standing (Yes m) p (suc k) 0) (six_after hs (frame_of m) (take k start_mark) (await_is at))) (awaits m k (valid_message at) l)
+    reach_by (ap (λ (p : ℕ). standing (Some m) p (suc k) 0) (six_after hs (frame_of m) (take k start_mark) (await_is at))) (awaits m k (valid_message at) l)
 reached (place.reads {hs} {g} n w at low u) =
     let f = begun_is at in
     reach_by (ap (λ (p : ℕ). standing g p (5 + 2 * n) w) (six_after hs f.ks (pairs n w) f.six)) (reads n w f.beginning low u)
@@ -118,7 +117,7 @@ short_from ks (h ∷ hs) at b l =
 short : (hs : List ℕ) → Bits hs → length hs ≤ 6 → At (idle none) hs
 short hs b l = short_from [] hs fresh b (omega arith)
 
-opens : At (begun No) hunted_start
+opens : At (begun None) hunted_start
 opens = hunted-at 0 (short (0 ∷ 0 ∷ 0 ∷ 1 ∷ 1 ∷ 1 ∷ []) (omega arith) (omega arith)) ([], refl)
 
 gives : (m : Message) → message_ok m ≡ true → At (said (Gives m)) (hunted_start ++ pairs (bit_count m) (word_of m))
@@ -129,12 +128,12 @@ waited : (a b : ℕ) → List ℕ
 waited a b = hunted_start ++ (replicate 16 1 ++ a ∷ b ∷ start_mark)
 
 -- a history with which a frame begins, with the same last six half-cycles
-record Comes (g : Given) (ks : List ℕ) : Type 0 where
+record Comes (g : Option Message) (ks : List ℕ) : Type 0 where
   pub history : List ℕ
   pub stood : Stood history g 5 0
   pub six : past_of history ≡ past_of ks
 
-begun_by : {g : Given} {ks : List ℕ} → Beginning g ks → Comes g ks
+begun_by : {g : Option Message} {ks : List ℕ} → Beginning g ks → Comes g ks
 unfolding receiver_after waited last_six step_of judged takes_of hunt_of read_of receiver_ok pairs_ok
 begun_by (hunted zero zero l k) = record { history = waited 0 0; stood = sym (state_after_lem (waited 0 0)); six = refl }
 begun_by (hunted zero (suc zero) l k) = record { history = waited 0 1; stood = sym (state_after_lem (waited 0 1)); six = refl }
@@ -158,7 +157,7 @@ come (awaits m k ok l) =
     let hs = hunted_start ++ pairs (bit_count m) (word_of m) in (
       hs ++ take k start_mark,
       stands_state (place.awaits k (gives m ok) l)
-          ∙ ap (λ (p : ℕ). standing (Yes m) p (suc k) 0) (six_after hs (frame_of m) (take k start_mark) (await_is (gives m ok))),
+          ∙ ap (λ (p : ℕ). standing (Some m) p (suc k) 0) (six_after hs (frame_of m) (take k start_mark) (await_is (gives m ok))),
     )
 come (reads {g} {hs} n w b low u) =
     let f = begun_by b in (

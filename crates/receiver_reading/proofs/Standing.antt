@@ -6,6 +6,7 @@
 --     all_stand                    every list of 0 and 1 stands somewhere
 --     last_step                    and what its last half-cycle was
 --     every_history_stands         the theorem of specs/Standing.antt
+use Rattle.std.specs.Prelude.{Option, Some, None}
 use Prim.Native.Nat.{ℕ, suc, ◌+◌, ◌-◌, ◌*◌, ◌/◌, ◌%◌, ◌^◌, ◌≤◌, ◌<◌}
 use mathlib.Core.Logic.{inl, inr}
 use mathlib.Core.Path.{◌≡◌, refl, sym, ap, ap₂, subst, ◌∙◌}
@@ -13,24 +14,20 @@ use mathlib.Core.Bool.{Bool, true, false, false≢true, ◌||◌}
 use mathlib.Core.List.{List, [], ◌∷◌, ◌++◌, append_assoc, append-nil}
 use native.Mathlib.Decide.{ℕ_discrete, dec_le}
 use native.Mathlib.Omega.{arith}
-use lib.Dec.{eqb}
 use lib.ListN.{length, get_or, take}
 use lib.Seq.{take-suc}
 use Rattle.message.specs.Messages.{message_ok, same_message}
 use Rattle.message.specs.Words.{word_of, bit_count, standard_of, extended_of}
 use Rattle.message.specs.declared.Message.{Message}
 use Rattle.message.specs.declared.word.Reading.{Reading}
-use Rattle.message.specs.declared.word.Reading.TheVariants.{Message as Says, Longer, Unsupported, Refused as NotRead}
+use Rattle.message.specs.declared.word.Reading.TheVariants.{Message as Says, Longer, Unsupported}
 use Rattle.message.proofs.CodeLaws.{same_is_equal}
 use Rattle.receiver.specs.Receivers.{fresh_receiver, start_hunted, start_waited}
 use Rattle.receiver.specs.Hearing.{receiver_after, taken}
-use Rattle.receiver.specs.declared.Given.{Given}
-use Rattle.receiver.specs.declared.Given.TheVariants.{No, Yes}
 use Rattle.receiver.specs.declared.Receiver.{Receiver}
 use Rattle.receiver.specs.declared.Event.{Event}
 use Rattle.receiver.specs.declared.Event.TheVariants.{Nothing, Message as Gives}
 use Rattle.receiver.specs.declared.Heard.{Heard}
-use Rattle.receiver.proofs.ReceiverLaws.{nine_ok, nine_ok_lem}
 use Rattle.receiver_laws.proofs.Steps.{standing}
 use Rattle.receiver_laws.proofs.Pasts.{Bits}
 use Rattle.receiver_reading.specs.Reading.{start_mark, pairs, Unfinished, Broke, idle, begun, said}
@@ -45,7 +42,7 @@ use Rattle.receiver_reading.proofs.States.{reading_stood, reading_told, await_st
 
 -- ---- the state at each place
 
-pub half_stood : (hs : List ℕ) (g : Given) → Stood hs g 5 0 → (n w x : ℕ) → w < 2 ^ n → Unfinished n w → x ≤ 1
+pub half_stood : (hs : List ℕ) (g : Option Message) → Stood hs g 5 0 → (n w x : ℕ) → w < 2 ^ n → Unfinished n w → x ≤ 1
     → Stood (hs ++ (pairs n w ++ x ∷ [])) g (6 + 2 * n) w
 half_stood hs g s n w x low u l =
     let ks = hs ++ pairs n w in
@@ -76,13 +73,13 @@ stands_by e s = subst (λ (l : List ℕ). Somewhere l) e s
 step_by : {xs ys : List ℕ} → xs ≡ ys → Step xs → Step ys
 step_by e s = subst (λ (l : List ℕ). Step l) e s
 
-quietly : (g : Given) (a w : ℕ) {hs : List ℕ} → Told hs (goes g a w) → Somewhere hs → Step hs
+quietly : (g : Option Message) (a w : ℕ) {hs : List ℕ} → Told hs (goes g a w) → Somewhere hs → Step hs
 quietly g a w t s = quiet (ap (λ (o : Heard). o.event) t) s
 
 -- ---- hunting
 
 module _ (hs : List ℕ) (o : Broke) (at : At (idle o) hs) where
-  hunting_stood : Stood hs No (place_of o (length hs)) 0
+  hunting_stood : Stood hs None (place_of o (length hs)) 0
   hunting_stood = where_at at
 
   -- a start is found, or none
@@ -91,10 +88,10 @@ module _ (hs : List ℕ) (o : Broke) (at : At (idle o) hs) where
     where
       go : (c : Bool) → (start_hunted (past_of hs) h || start_waited (past_of hs) (place_of o (length hs)) h) ≡ c → Step (hs ++ h ∷ [])
       go true f =
-          quietly No 5 0 (start_told hs (place_of o (length hs)) hunting_stood (place_hunts o (length hs)) h l f)
+          quietly None 5 0 (start_told hs (place_of o (length hs)) hunting_stood (place_hunts o (length hs)) h l f)
           (stands_by (pairs_none (hs ++ h ∷ []) 0) (stands (reads 0 0 (hunted h at (found_begins hs h (at_bits at) o f)) (omega arith) (inl (omega arith)))))
       go false n =
-          quietly No (place_of o (length (hs ++ h ∷ []))) 0 (hunts_told o hs h (since at) hunting_stood l n)
+          quietly None (place_of o (length (hs ++ h ∷ []))) 0 (hunts_told o hs h (since at) hunting_stood l n)
           (stands (idles (hunts h at l (λ b. false≢true (sym n ∙ begins_found hs h o b)))))
 
 -- ---- the awaited start
@@ -114,28 +111,28 @@ module _ (hs : List ℕ) (m : Message) (at : At (said (Gives m)) hs) where
   await_step : (k h : ℕ) → k ≤ 3 → h ≤ 1 → Step (hs ++ (take k start_mark ++ h ∷ []))
   await_step k h l b = go (ℕ_discrete h (get_or start_mark k 0))
     where
-      s : Stood hs (Yes m) 1 0
+      s : Stood hs (Some m) 1 0
       s = (where_at at).1
 
       go : Dec (h ≡ get_or start_mark k 0) → Step (hs ++ (take k start_mark ++ h ∷ []))
       go (yes e) =
           let more : take (suc k) start_mark ≡ take k start_mark ++ h ∷ [] =
           take-suc start_mark k 0 (omega arith) ∙ ap (λ (x : ℕ). take k start_mark ++ x ∷ []) (sym e) in
-          step_by (ap (λ (l : List ℕ). hs ++ l) more) (quietly (Yes m) (suc k + 1) 0 (await_told m hs at s k l) (start_stands (suc k) (omega arith)))
-      go (no d) = quietly No 0 0 (lapse_told m hs at s k h l b d) (stands (idles (lapses k h at l b d)))
+          step_by (ap (λ (l : List ℕ). hs ++ l) more) (quietly (Some m) (suc k + 1) 0 (await_told m hs at s k l) (start_stands (suc k) (omega arith)))
+      go (no d) = quietly None 0 0 (lapse_told m hs at s k h l b d) (stands (idles (lapses k h at l b d)))
 
 -- ---- a frame
 
 -- it is whole
-completes : (hs : List ℕ) (g : Given) (m : Message) → At (begun g) hs → message_ok m ≡ true → Step (hs ++ pairs (bit_count m) (word_of m))
-completes hs No m at ok = ends (message m at ok (λ e. false≢true cc))
-completes hs (Yes k) m at ok = go (same_message k m) refl
+completes : (hs : List ℕ) (g : Option Message) (m : Message) → At (begun g) hs → message_ok m ≡ true → Step (hs ++ pairs (bit_count m) (word_of m))
+completes hs None m at ok = ends (message m at ok (λ e. false≢true cc))
+completes hs (Some k) m at ok = go (same_message k m) refl
   where
     go : (b : Bool) → same_message k m ≡ b → Step (hs ++ pairs (bit_count m) (word_of m))
-    go true e = ends (repeated (subst (λ (n : Message). At (begun (Yes n)) hs) ((same_is_equal k m).0 e) at))
+    go true e = ends (repeated (subst (λ (n : Message). At (begun (Some n)) hs) ((same_is_equal k m).0 e) at))
     go false e = ends (message m at ok (λ q. let same : k ≡ m = cc in false≢true (sym e ∙ (same_is_equal k m).1 same)))
 
-module _ (hs : List ℕ) (g : Given) (at : At (begun g) hs) where
+module _ (hs : List ℕ) (g : Option Message) (at : At (begun g) hs) where
   frame_stood : Stood hs g 5 0
   frame_stood = where_at at
 
@@ -162,7 +159,6 @@ module _ (hs : List ℕ) (g : Given) (at : At (begun g) hs) where
         goes_on (inr (omega arith, omega arith, ap (λ (k : ℕ). w / 2 ^ k % 32) none ∙ longer_code w r))
     ninth e Unsupported r =
         subst (λ (k : ℕ). Step (hs ++ pairs (suc k) w)) (sym e) (ends (unsupported w at (unsupported_code_lem w (nine_low e) r)))
-    ninth e (NotRead why) r = absurd (false≢true (ap (nine_ok (eqb (w % 2) 1) (w / 2 % 16)) (sym r) ∙ nine_ok_lem w))
 
     pair_step : Step (hs ++ pairs (suc n) w)
     pair_step = go (ℕ_discrete n 8) (ℕ_discrete n 28)

@@ -9,6 +9,7 @@
 --     await_stood, await_told, lapse_told            k half-cycles of the awaited start came; one more, or another
 --     since                                          a frame that broke began before
 --     Where, hunts_told, where_at                    each mark
+use Rattle.std.specs.Prelude.{Option, Some, None}
 use Prim.Native.Nat.{ℕ, zero, suc, ◌+◌, ◌-◌, ◌*◌, ◌/◌, ◌%◌, ◌^◌, ◌≤◌, ◌<◌}
 use mathlib.Core.Logic.{inl, inr, ◌≢◌}
 use mathlib.Core.Path.{◌≡◌, refl, sym, ap, subst, ◌∙◌}
@@ -30,8 +31,6 @@ use Rattle.message.proofs.WordLaws.{word_below}
 use Rattle.burst.specs.Frames.{bits_of, frame_of}
 use Rattle.burst.proofs.FrameLaws.{bits_length, pairs_length}
 use Rattle.receiver.specs.Receivers.{says, hunting, shifted, start_hunted, start_waited, waits_on, broken as brokenBy, complete_of, pair_of}
-use Rattle.receiver.specs.declared.Given.{Given}
-use Rattle.receiver.specs.declared.Given.TheVariants.{No, Yes}
 use Rattle.receiver.specs.declared.Receiver.{Receiver}
 use Rattle.receiver.specs.declared.Event.{Event}
 use Rattle.receiver.specs.declared.Event.TheVariants.{Nothing, Message as Gives, Repeat, BrokenPair, BrokenUnsupported, Refused}
@@ -54,7 +53,7 @@ use Rattle.receiver_reading.proofs.Answers.{hunt_told, start_told, brings, equal
 -- ---- the pairs
 
 -- a pair that others follow
-pair_follows : (g : Given) (q o n w p : ℕ) → Unfinished (suc n) w → pair_of (standing g q (5 + 2 * n + 1) o) w p ≡ goes g (5 + 2 * suc n) w p
+pair_follows : (g : Option Message) (q o n w p : ℕ) → Unfinished (suc n) w → pair_of (standing g q (5 + 2 * n + 1) o) w p ≡ goes g (5 + 2 * suc n) w p
 unfolding pair_of
 pair_follows g q o n w p u = go u (ℕ_discrete n 8)
   where
@@ -68,7 +67,7 @@ pair_follows g q o n w p u = go u (ℕ_discrete n 8)
         rw (eq-eqb (5 + 2 * n + 1) 22 (omega arith), long) next
     go (inr h) (no d) = rw (ne_eqb (5 + 2 * n + 1) 22 (λ z. omega arith), ne_eqb (5 + 2 * n + 1) 62 (λ z. omega (arith, h.1))) next
 
-module _ (hs : List ℕ) (g : Given) (s : Stood hs g 5 0) where
+module _ (hs : List ℕ) (g : Option Message) (s : Stood hs g 5 0) where
   -- n pairs and one more, with which there are the bits of w
   module _ (n w : ℕ) (i : Stood (hs ++ pairs n (w / 2)) g (5 + 2 * n) (w / 2)) (u : Unfinished n (w / 2)) (low : w < 2 ^ suc n) where
     -- the six before the last half-cycle
@@ -131,7 +130,7 @@ module _ (hs : List ℕ) (g : Given) (s : Stood hs g 5 0) where
 pub valid_message : {m : Message} {hs : List ℕ} → At (said (Gives m)) hs → message_ok m ≡ true
 valid_message (message m a ok n) = ok
 
-pub valid_given : {m : Message} {hs : List ℕ} → At (begun (Yes m)) hs → message_ok m ≡ true
+pub valid_given : {m : Message} {hs : List ℕ} → At (begun (Some m)) hs → message_ok m ≡ true
 valid_given (awaited a) = valid_message a
 
 begins_start : (o : Broke) (hs : List ℕ) → Begins o hs → EndsIn start_mark hs
@@ -142,7 +141,7 @@ begins_start (early s) hs (inr (inr t)) = t.0
 begins_start (late s) hs (inl e) = ends_drop (0 ∷ 0 ∷ 0 ∷ []) start_mark hs e
 begins_start (late s) hs (inr t) = t.0
 
-pub begun_ends : {g : Given} {hs : List ℕ} → At (begun g) hs → EndsIn start_mark hs
+pub begun_ends : {g : Option Message} {hs : List ℕ} → At (begun g) hs → EndsIn start_mark hs
 begun_ends (hunted {hs} {o} h a s) = begins_start o (hs ++ h ∷ []) s
 begun_ends (awaited {hs} a) = (hs, refl)
 
@@ -209,37 +208,37 @@ no_start (suc (suc (suc zero))) p h l b d c =
     rw one (no_start_one (last_six p (take 3 start_mark)) 0)
 no_start (suc (suc (suc (suc k)))) p h l b d c = absurd (omega arith)
 
-module _ (m : Message) (hs : List ℕ) (a : At (said (Gives m)) hs) (s : Stood hs (Yes m) 1 0) where
+module _ (m : Message) (hs : List ℕ) (a : At (said (Gives m)) hs) (s : Stood hs (Some m) 1 0) where
   abbrev so : ℕ → List ℕ
   so k = hs ++ take k start_mark
 
-  next_start : (k : ℕ) → k ≤ 3 → Stood (so k) (Yes m) (suc k) 0 → Told (so (suc k)) (goes (Yes m) (suc k + 1) 0)
+  next_start : (k : ℕ) → k ≤ 3 → Stood (so k) (Some m) (suc k) 0 → Told (so (suc k)) (goes (Some m) (suc k + 1) 0)
   next_start k l i =
       let h = get_or start_mark k 0 in
       let w = start_half k l in
       let more : take (suc k) start_mark ≡ take k start_mark ++ h ∷ [] = take-suc start_mark k 0 (omega arith) in
       let j : so k ++ h ∷ [] ≡ so (suc k) = append_assoc hs (take k start_mark) (h ∷ []) ∙ ap (λ (x : List ℕ). hs ++ x) (sym more) in
-      told_by (goes (Yes m) (suc k + 1) 0) j
-      (step_told (so k) (Yes m) (suc k) 0 i h (goes (Yes m) (suc k + 1) 0)
-      (step_wanted (Yes m) (past_of (so k)) (suc k) 0 h (valid (so k) (Yes m) (suc k) 0 i) w.1 (omega arith) (omega arith) w.0))
+      told_by (goes (Some m) (suc k + 1) 0) j
+      (step_told (so k) (Some m) (suc k) 0 i h (goes (Some m) (suc k + 1) 0)
+      (step_wanted (Some m) (past_of (so k)) (suc k) 0 h (valid (so k) (Some m) (suc k) 0 i) w.1 (omega arith) (omega arith) w.0))
 
-  pub await_stood : (k : ℕ) → k ≤ 4 → Stood (so k) (Yes m) (suc k) 0
-  await_stood zero l = stood_by (Yes m) 1 0 (sym (append-nil hs)) s
+  pub await_stood : (k : ℕ) → k ≤ 4 → Stood (so k) (Some m) (suc k) 0
+  await_stood zero l = stood_by (Some m) 1 0 (sym (append-nil hs)) s
   await_stood (suc k) l =
-      told_stands (so (suc k)) (goes (Yes m) (suc k + 1) 0) (next_start k (omega arith) (await_stood k (omega arith)))
-      ∙ ap (λ (x : ℕ). standing (Yes m) (past_of (so (suc k))) x 0) (omega arith)
+      told_stands (so (suc k)) (goes (Some m) (suc k + 1) 0) (next_start k (omega arith) (await_stood k (omega arith)))
+      ∙ ap (λ (x : ℕ). standing (Some m) (past_of (so (suc k))) x 0) (omega arith)
 
-  pub await_told : (k : ℕ) → k ≤ 3 → Told (so (suc k)) (goes (Yes m) (suc k + 1) 0)
+  pub await_told : (k : ℕ) → k ≤ 3 → Told (so (suc k)) (goes (Some m) (suc k + 1) 0)
   await_told k l = next_start k l (await_stood k (omega arith))
 
-  pub lapse_told : (k h : ℕ) → k ≤ 3 → h ≤ 1 → h ≢ get_or start_mark k 0 → Told (hs ++ (take k start_mark ++ h ∷ [])) (goes No 0 0)
+  pub lapse_told : (k h : ℕ) → k ≤ 3 → h ≤ 1 → h ≢ get_or start_mark k 0 → Told (hs ++ (take k start_mark ++ h ∷ [])) (goes None 0 0)
   lapse_told k h l b d =
       let i = await_stood k (omega arith) in
       let unwanted : h ≢ pick (leb (suc k) 3) 1 0 = λ e. d (e ∙ sym (start_half k l).0) in
       let none : NoStart (past_of (so k)) 0 h = rw (six_append 63 hs (take k start_mark)) (no_start k (past_of hs) h l b d (clean a)) in
-      told_by (goes No 0 0) (append_assoc hs (take k start_mark) (h ∷ []))
-      (step_told (so k) (Yes m) (suc k) 0 i h (goes No 0 0)
-      (step_unwanted (Yes m) (past_of (so k)) (suc k) 0 h (valid (so k) (Yes m) (suc k) 0 i) b (omega arith) (omega arith) unwanted none))
+      told_by (goes None 0 0) (append_assoc hs (take k start_mark) (h ∷ []))
+      (step_told (so k) (Some m) (suc k) 0 i h (goes None 0 0)
+      (step_unwanted (Some m) (past_of (so k)) (suc k) 0 h (valid (so k) (Some m) (suc k) 0 i) b (omega arith) (omega arith) unwanted none))
 
 -- ---- a frame that broke
 
@@ -247,7 +246,7 @@ module _ (m : Message) (hs : List ℕ) (a : At (said (Gives m)) hs) (s : Stood h
 pairs_long : (n w : ℕ) → length (pairs n w) ≡ 2 * n
 pairs_long n w = omega (arith, pairs_length (bits_of n w), bits_length n w)
 
-begun_long : {g : Given} {hs : List ℕ} → At (begun g) hs → 4 ≤ length hs
+begun_long : {g : Option Message} {hs : List ℕ} → At (begun g) hs → 4 ≤ length hs
 begun_long a = let e = begun_ends a in omega (arith, length-append e.0 start_mark, ap length e.1)
 
 broken_long : (hs : List ℕ) (n w x : ℕ) → length (hs ++ (pairs n w ++ x ∷ x ∷ [])) ≡ length hs + (2 * n + 2)
@@ -276,19 +275,19 @@ since (resumes a) = since_broke a
 -- what is left after an event: a message's start is awaited, or the receiver hunts and waits for none
 abbrev Left : Event → List ℕ → Type 0
 Left Nothing hs = Unit {0}
-Left (Gives m) hs = Stood hs (Yes m) 1 0
-Left Repeat hs = Stood hs No 0 0
+Left (Gives m) hs = Stood hs (Some m) 1 0
+Left Repeat hs = Stood hs None 0 0
 Left BrokenPair hs = Unit {0}
-Left BrokenUnsupported hs = Stood hs No 0 0
+Left BrokenUnsupported hs = Stood hs None 0 0
 Left (Refused why) hs = Unit {0}
 
 abbrev pub Where : Mark → List ℕ → Type 0
-Where (idle o) hs = Stood hs No (place_of o (length hs)) 0
+Where (idle o) hs = Stood hs None (place_of o (length hs)) 0
 Where (begun g) hs = Stood hs g 5 0
 Where (broke s n) hs = Told hs (breaks BrokenPair (place_of (broke_at s n) (length hs)))
 Where (said e) hs = ((answer hs).event ≡ e) × Left e hs
 
-final : (e : Event) (hs : List ℕ) → Final e → Left e hs → Stood hs No 0 0
+final : (e : Event) (hs : List ℕ) → Final e → Left e hs → Stood hs None 0 0
 final Nothing hs f s = absurd f
 final (Gives m) hs f s = absurd f
 final Repeat hs f s = s
@@ -303,16 +302,16 @@ no_frame o hs h b n = go (start_hunted (past_of hs) h || start_waited (past_of h
     go true m = absurd (m refl)
     go false m = refl
 
-new_message : (g : Given) (m : Message) (p : ℕ) → g ≢ Yes m → complete_of g m p ≡ says (Gives m) (standing (Yes m) p 1 0)
+new_message : (g : Option Message) (m : Message) (p : ℕ) → g ≢ Some m → complete_of g m p ≡ says (Gives m) (standing (Some m) p 1 0)
 unfolding complete_of
-new_message No m p n = refl
-new_message (Yes k) m p n = rw (other (same_message k m) refl)
+new_message None m p n = refl
+new_message (Some k) m p n = rw (other (same_message k m) refl)
   where
     other : (b : Bool) → same_message k m ≡ b → same_message k m ≡ false
-    other true e = absurd (n (ap Yes ((same_is_equal k m).0 e)))
+    other true e = absurd (n (ap Some ((same_is_equal k m).0 e)))
     other false e = e
 
-same_message_lem : (m : Message) (p : ℕ) → complete_of (Yes m) m p ≡ breaks Repeat 0 p
+same_message_lem : (m : Message) (p : ℕ) → complete_of (Some m) m p ≡ breaks Repeat 0 p
 unfolding complete_of
 same_message_lem m p = rw ((same_is_equal m m).1 refl)
 
@@ -321,31 +320,31 @@ said_so : (e : Event) (hs : List ℕ) (r : Receiver) → answer hs ≡ says e r 
 said_so e hs r t = (ap (λ (o : Heard). o.event) t, ap (λ (o : Heard). o.next) t)
 
 -- the hunt goes on, and the waiting with it
-pub hunts_told : (o : Broke) (hs : List ℕ) (h : ℕ) → Since o (length hs) → Stood hs No (place_of o (length hs)) 0 → h ≤ 1
-    → NoStart (past_of hs) (place_of o (length hs)) h → Told (hs ++ h ∷ []) (goes No (place_of o (length (hs ++ h ∷ []))) 0)
+pub hunts_told : (o : Broke) (hs : List ℕ) (h : ℕ) → Since o (length hs) → Stood hs None (place_of o (length hs)) 0 → h ≤ 1
+    → NoStart (past_of hs) (place_of o (length hs)) h → Told (hs ++ h ∷ []) (goes None (place_of o (length (hs ++ h ∷ []))) 0)
 hunts_told o hs h i s l n =
     let next : waits_on (place_of o (length hs)) ≡ place_of o (length (hs ++ h ∷ [])) =
     place_next o (length hs) i ∙ ap (place_of o) (sym (length-append hs (h ∷ []) ∙ add-one (length hs))) in
-    hunt_told hs (place_of o (length hs)) s (place_hunts o (length hs)) h l n ∙ ap (λ (a : ℕ). goes No a 0 (past_of (hs ++ h ∷ []))) next
+    hunt_told hs (place_of o (length hs)) s (place_hunts o (length hs)) h l n ∙ ap (λ (a : ℕ). goes None a 0 (past_of (hs ++ h ∷ []))) next
 
 pub where_at : {mark : Mark} {hs : List ℕ} → At mark hs → Where mark hs
 where_at fresh = fresh_stood
 where_at (hunts {hs} {o} h a l n) =
-    told_stands (hs ++ h ∷ []) (goes No (place_of o (length (hs ++ h ∷ []))) 0)
+    told_stands (hs ++ h ∷ []) (goes None (place_of o (length (hs ++ h ∷ []))) 0)
     (hunts_told o hs h (since a) (where_at a) l (no_frame o hs h (at_bits a) n))
-where_at (lapses {hs} {m} k h a l c d) = told_stands (hs ++ (take k start_mark ++ h ∷ [])) (goes No 0 0) (lapse_told m hs a (where_at a).1 k h l c d)
+where_at (lapses {hs} {m} k h a l c d) = told_stands (hs ++ (take k start_mark ++ h ∷ [])) (goes None 0 0) (lapse_told m hs a (where_at a).1 k h l c d)
 where_at (follows {hs} {e} f a) = final e hs f (where_at a).1
 where_at (resumes {hs} {s} {n} a) = told_stands hs (breaks BrokenPair (place_of (broke_at s n) (length hs))) (where_at a)
 where_at (hunted {hs} {o} h a s) =
-    told_stands (hs ++ h ∷ []) (goes No 5 0)
+    told_stands (hs ++ h ∷ []) (goes None 5 0)
     (start_told hs (place_of o (length hs)) (where_at a) (place_hunts o (length hs)) h (hunted_half o hs h s) (begins_found hs h o s))
 where_at (awaited {hs} {m} a) = await_stood m hs a (where_at a).1 4 (omega arith)
 where_at (message {hs} {g} m a ok n) =
     let ks = hs ++ pairs (bit_count m) (word_of m) in
-    said_so (Gives m) ks (standing (Yes m) (past_of ks) 1 0) (complete_told hs g (where_at a) m ok ∙ new_message g m (past_of ks) n)
+    said_so (Gives m) ks (standing (Some m) (past_of ks) 1 0) (complete_told hs g (where_at a) m ok ∙ new_message g m (past_of ks) n)
 where_at (repeated {hs} {m} a) =
     let ks = hs ++ pairs (bit_count m) (word_of m) in
-    said_so Repeat ks (hunting (past_of ks)) (complete_told hs (Yes m) (where_at a) m (valid_given a) ∙ same_message_lem m (past_of ks))
+    said_so Repeat ks (hunting (past_of ks)) (complete_told hs (Some m) (where_at a) m (valid_given a) ∙ same_message_lem m (past_of ks))
 where_at (equal {hs} {g} n w x a low u l) =
     let ks = hs ++ (pairs n w ++ x ∷ x ∷ []) in
     let long : length ks ≡ length hs - 4 + (5 + 2 * n + 1) = omega (arith, broken_long hs n w x, begun_long a) in

@@ -27,7 +27,7 @@ use Rattle.message.specs.Words.{nine, word_of, bit_count, function_reading, stan
 use Rattle.message.specs.declared.Message.{Message}
 use Rattle.message.specs.declared.Message.TheVariants.{Address, Function as Command, Extended}
 use Rattle.message.specs.declared.word.Reading.{Reading}
-use Rattle.message.specs.declared.word.Reading.TheVariants.{Message as Says, Longer, Unsupported, Refused as NotRead}
+use Rattle.message.specs.declared.word.Reading.TheVariants.{Message as Says, Longer, Unsupported}
 use Rattle.message.proofs.CodeLaws.{code_of-number}
 use Rattle.message.proofs.Tables.{every_at}
 use Rattle.message.proofs.WordLaws.{head_of_extended}
@@ -131,7 +131,6 @@ abbrev says_function : ℕ → ℕ → Reading → Bool
 says_function house c (Says m) = is_function house c m
 says_function house c Longer = true
 says_function house c Unsupported = true
-says_function house c (NotRead why) = true
 
 says_function_lem : (house c : ℕ) → c < 16 → says_function house c (function_reading house (meaning_of c)) ≡ true
 unfolding meaning_of meanings
@@ -238,4 +237,3 @@ code_unsupported w c = go (standard_of w) (nine_ok_lem w) refl
         let seven = eqb-true (w / 2 % 16) 7 ((and-eq-true_iff (eqb (w % 2) 1) (eqb (w / 2 % 16) 7)).0 t).1 in
         absurd (omega (arith, seven, c.low))
     go Unsupported t e = e
-    go (NotRead why) t e = absurd (false≢true t)

@@ -1,6 +1,7 @@
 -- Reading the mains (01, 'The receiver'): the receiver's paragraph as a grammar of all the half-cycles that came since it was fresh, oldest first.
 -- No field of the receiver is named. The waiting after a broken frame is 02's A2. The theorem: proofs/ReadingWhole.antt.
 use Rattle.std.specs.Prelude.{ℕ, ◌+◌, ◌-◌, ◌/◌, ◌%◌, ◌^◌, ◌≤◌, ◌<◌, ◌⊎◌, ◌≢◌, ◌↔◌, ◌≡◌, true, List, [], ◌∷◌, ◌++◌, leb, length, get_or, take}
+use Rattle.std.specs.Prelude.{Option, Some, None}
 use Rattle.ground.specs.Choice.{pick}
 use Rattle.ground.specs.declared.Refusal.TheVariants as refusal
 use Rattle.message.specs.Messages.{message_ok}
@@ -9,8 +10,6 @@ use Rattle.message.specs.declared.Message.{Message}
 use Rattle.burst.specs.Frames.{bits_of, pairs_of, frame_of, burst_of}
 use Rattle.receiver.specs.Receivers.{step_of, fresh_receiver}
 use Rattle.receiver.specs.Hearing.{receiver_after, taken}
-use Rattle.receiver.specs.declared.Given.{Given}
-use Rattle.receiver.specs.declared.Given.TheVariants.{No, Yes}
 use Rattle.receiver.specs.declared.Event.{Event}
 use Rattle.receiver.specs.declared.Event.TheVariants.{Nothing, Message as Gives, Repeat, BrokenPair, BrokenUnsupported, Refused}
 
@@ -73,7 +72,7 @@ pub data Mark : Type 0 where
   -- nothing: no frame is read and none awaited. What broke is kept with it
   idle : Broke → Mark
   -- the start of a frame: directly after one that gave the message, or not
-  begun : Given → Mark
+  begun : Option Message → Mark
   -- a frame whose start began at half-cycle s: it broke after n whole pairs
   broke : (s n : ℕ) → Mark
   -- what is said there
@@ -100,21 +99,21 @@ pub data At : Mark → List ℕ → Type 0 where
   -- after BROKEN 10, "and hunting resumes"
   resumes : {hs : List ℕ} {s n : ℕ} → At (broke s n) hs → At (idle (broke_at s n)) hs
   -- a frame begins in the hunt, which "ends the waiting"
-  hunted : {hs : List ℕ} {o : Broke} (h : ℕ) → At (idle o) hs → Begins o (hs ++ h ∷ []) → At (begun No) (hs ++ h ∷ [])
+  hunted : {hs : List ℕ} {o : Broke} (h : ℕ) → At (idle o) hs → Begins o (hs ++ h ∷ []) → At (begun None) (hs ++ h ∷ [])
   -- "The next four half-cycles must be 1 1 1 0 .. If they match, a frame is read"
-  awaited : {hs : List ℕ} {m : Message} → At (said (Gives m)) hs → At (begun (Yes m)) (hs ++ start_mark)
+  awaited : {hs : List ℕ} {m : Message} → At (said (Gives m)) hs → At (begun (Some m)) (hs ++ start_mark)
   -- "A complete frame gives MESSAGE", and of an awaited one that is "different, it gives MESSAGE"
-  message : {hs : List ℕ} {g : Given} (m : Message) → At (begun g) hs → message_ok m ≡ true → g ≢ Yes m
+  message : {hs : List ℕ} {g : Option Message} (m : Message) → At (begun g) hs → message_ok m ≡ true → g ≢ Some m
       → At (said (Gives m)) (hs ++ pairs (bit_count m) (word_of m))
   -- "equal to the one just given, it gives REPEAT"
-  repeated : {hs : List ℕ} {m : Message} → At (begun (Yes m)) hs → At (said Repeat) (hs ++ pairs (bit_count m) (word_of m))
+  repeated : {hs : List ℕ} {m : Message} → At (begun (Some m)) hs → At (said Repeat) (hs ++ pairs (bit_count m) (word_of m))
   -- "An equal pair" after n whole ones; the frame's start is the last four of hs
-  equal : {hs : List ℕ} {g : Given} (n w x : ℕ) → At (begun g) hs → w < 2 ^ n → Unfinished n w → x ≤ 1
+  equal : {hs : List ℕ} {g : Option Message} (n w x : ℕ) → At (begun g) hs → w < 2 ^ n → Unfinished n w → x ≤ 1
       → At (broke (length hs - 4) n) (hs ++ (pairs n w ++ x ∷ x ∷ []))
   -- "gives BROKEN 10 at its second half-cycle"
   broken : {hs : List ℕ} {s n : ℕ} → At (broke s n) hs → At (said BrokenPair) hs
   -- "A ninth pair that completes code 10, 11 or 12 with function bit 1 gives BROKEN 11"
-  unsupported : {hs : List ℕ} {g : Given} (w : ℕ) → At (begun g) hs → NoSuchCode w → At (said BrokenUnsupported) (hs ++ pairs 9 w)
+  unsupported : {hs : List ℕ} {g : Option Message} (w : ℕ) → At (begun g) hs → NoSuchCode w → At (said BrokenUnsupported) (hs ++ pairs 9 w)
 
 -- ---- what is said
 
@@ -127,10 +126,10 @@ pub record FrameEnds (m : Message) (ks : List ℕ) : Type 0 where
   pub valid : message_ok m ≡ true
   pub hs : List ℕ
   -- the message given directly before that start, if any
-  pub given : Given
+  pub given : Option Message
   pub starts : At (begun given) hs
   -- "different, it gives MESSAGE"
-  pub different : given ≢ Yes m
+  pub different : given ≢ Some m
   pub whole : hs ++ pairs (bit_count m) (word_of m) ≡ ks
 
 -- exactly what ends with the last of these half-cycles is said

@@ -1,12 +1,10 @@
 -- Where a receiver that was fresh stands (01, 'The receiver'): what each of its fields is, by the list of all half-cycles that came, oldest first.
 -- The theorem: proofs/Standing.antt.
-use Rattle.std.specs.Prelude.{ℕ, suc, ◌+◌, ◌-◌, ◌*◌, ◌^◌, ◌≤◌, ◌<◌, List, [], ◌∷◌, ◌++◌, leb, length, take}
+use Rattle.std.specs.Prelude.{ℕ, suc, ◌+◌, ◌-◌, ◌*◌, ◌^◌, ◌≤◌, ◌<◌, List, [], ◌∷◌, ◌++◌, leb, length, take, Option, Some}
 use Rattle.ground.specs.Choice.{pick}
 use Rattle.message.specs.declared.Message.{Message}
 use Rattle.receiver.specs.Receivers.{fresh_receiver, near, far, waiting}
 use Rattle.receiver.specs.Hearing.{receiver_after, taken}
-use Rattle.receiver.specs.declared.Given.{Given}
-use Rattle.receiver.specs.declared.Given.TheVariants.{Yes}
 use Rattle.receiver.specs.declared.Receiver.{Receiver}
 use Rattle.receiver.specs.declared.Event.TheVariants.{Message as Gives}
 use Rattle.receiver_laws.specs.Whole.{last_six}
@@ -35,12 +33,12 @@ pub data StandsAfter : List ℕ → Receiver → Type 0 where
   idles : {hs : List ℕ} {o : Broke} → At (idle o) hs → StandsAfter hs (waiting (past_of hs) (place_of o (length hs)))
   -- awaiting: k half-cycles of the start came since the frame of m, the message just given
   awaits : {hs : List ℕ} {m : Message} (k : ℕ) → At (said (Gives m)) hs → k ≤ 3
-      → StandsAfter (hs ++ take k start_mark) (record { past = past_of (hs ++ take k start_mark); at = suc k; bits = 0; given = Yes m })
+      → StandsAfter (hs ++ take k start_mark) (record { past = past_of (hs ++ take k start_mark); at = suc k; bits = 0; given = Some m })
   -- reading: its frame began where hs ends, the n bits of w were read since, and g is the message just given, if any
-  reads : {hs : List ℕ} {g : Given} (n w : ℕ) → At (begun g) hs → w < 2 ^ n → Unfinished n w
+  reads : {hs : List ℕ} {g : Option Message} (n w : ℕ) → At (begun g) hs → w < 2 ^ n → Unfinished n w
       → StandsAfter (hs ++ pairs n w) (record { past = past_of (hs ++ pairs n w); at = 5 + 2 * n; bits = w; given = g })
   -- halfway: the same, and a pair's first half-cycle x came
-  halfway : {hs : List ℕ} {g : Given} (n w x : ℕ) → At (begun g) hs → w < 2 ^ n → Unfinished n w → x ≤ 1
+  halfway : {hs : List ℕ} {g : Option Message} (n w x : ℕ) → At (begun g) hs → w < 2 ^ n → Unfinished n w → x ≤ 1
       → StandsAfter (hs ++ (pairs n w ++ x ∷ [])) (record { past = past_of (hs ++ (pairs n w ++ x ∷ [])); at = 6 + 2 * n; bits = w; given = g })
 
 -- whatever half-cycles came, refused ones among them

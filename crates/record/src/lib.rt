@@ -4,7 +4,6 @@
 #![tactic(auto)]
 
 ghost use Rattle.std.specs.Prelude.{◌≡◌};
-ghost use Rattle.ground.specs.Choice.{pick};
 ghost use Rattle.record.specs.ModuleTable.{level_ok, fields_ok, preset_ok, reference_ok, group_ok, heard_ok};
 
 use plan::ABSOLUTE;
@@ -47,7 +46,7 @@ pub struct Groups {
     pub references: [u8; GROUPS],
 }
 
-// What a module is in one of them.
+// What a module is in one of them. A flag with values beside it: of one that is no member they are bytes too, which `module_table::run` leaves as they are.
 #[derive(Clone, Copy)]
 pub struct Membership {
     pub member: bool,
@@ -55,7 +54,8 @@ pub struct Membership {
     pub reference: u8,
 }
 
-// A module: kind 0 none, 1 lamp, 2 appliance.
+// A module: kind 0 none, 1 lamp, 2 appliance. Its bytes and no enums, here and in a house: `module_table::run` takes tables that break a rule, and its clause
+// `table` says what becomes of any byte.
 #[derive(Clone, Copy)]
 pub struct Record {
     pub kind: u8,
@@ -70,13 +70,6 @@ pub struct Record {
 pub struct House {
     pub heard: u8,
     pub lit: u8,
-}
-
-// One of two numbers, by a test.
-fn choose(b: bool, x: u8, y: u8) -> u8
-    ensures { result ≡ pick b x y }
-{
-    if b { x } else { y }
 }
 
 // Whether a module of the kind can have the level or preset.

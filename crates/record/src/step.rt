@@ -1,6 +1,6 @@
 // What an act does to one record, part by part, and to a house's own bytes. Each part has a function of its own, so that a caller need not
 // store the others.
-ghost use Rattle.std.specs.Prelude.{◌≡◌, Bool, ◌≤◌, min, get_or};
+ghost use Rattle.std.specs.Prelude.{◌≡◌, Bool, ◌≤◌};
 ghost use Rattle.ground.specs.Choice.{pick};
 ghost use Rattle.plan.specs.Plans.{bit};
 ghost use Rattle.record.specs.declared.House.{House};
@@ -9,7 +9,8 @@ ghost use Rattle.record.specs.ModuleTable.{lit_level, dimmed, brightened, obeyed
 ghost use Rattle.record.specs.ModuleTable.{acted, step_record, heard_after, house_after};
 ghost use Rattle.record.specs.Parts.{keeps_groups};
 
-use crate::{GROUPS, Groups, House, Membership, Record, choose};
+use crate::{GROUPS, Groups, House, Membership, Record};
+use ground::{choose, number_at};
 use message::Function;
 use plan::{ABSOLUTE, Act, GroupAct, bit_of};
 
@@ -34,18 +35,11 @@ fn brighten(l: u8) -> u8
     if x < 60 { x + 3 } else { 63 }
 }
 
-// The lower of two numbers.
-fn lower(x: u8, y: u8) -> u8
-    ensures { result ≡ min x y }
-{
-    if y < x { y } else { x }
-}
-
 // The level that a module takes where x is asked: for an appliance all or nothing.
 fn level_asked(x: u8, r: Record) -> u8
     ensures { result ≡ level_for x r }
 {
-    choose((r.kind == 2) & !(x == 0), 63, lower(63, x))
+    choose((r.kind == 2) & !(x == 0), 63, u8::min(63, x))
 }
 
 // The level that a function leaves.
@@ -62,32 +56,18 @@ fn obeyed_level(f: Function, r: Record) -> u8
         Function::AllLightsOn => choose(lamp, 63, r.level),
         Function::AllLightsOff => choose(lamp, 0, r.level),
         Function::AllUnitsOff => 0,
-        Function::HailRequest => r.level,
-        Function::HailAcknowledge => r.level,
-        Function::StatusOn => r.level,
-        Function::StatusOff => r.level,
-        Function::StatusRequest => r.level,
+        _ => r.level,
     }
-}
-
-// One of four numbers; there is 0 beyond them.
-fn number_at(xs: [u8; GROUPS], g: u8) -> u8
-    ensures { result ≡ get_or xs g 0 }
-{
-    let i = g as usize;
-    if i < GROUPS { xs[i] } else { 0 }
 }
 
 // What a module is in group g.
 fn membership_in(g: u8, groups: Groups) -> Membership
     ensures { result ≡ membership g groups }
 {
-    let presets = groups.presets;
-    let references = groups.references;
     Membership {
         member: bit_of(g, groups.mask),
-        preset: number_at(presets, g),
-        reference: number_at(references, g),
+        preset: number_at(groups.presets, g),
+        reference: number_at(groups.references, g),
     }
 }
 
@@ -95,19 +75,15 @@ fn membership_in(g: u8, groups: Groups) -> Membership
 fn reached(group: u8, reference: u8, r: Record) -> bool
     ensures { result ≡ reached group reference r }
 {
-    let groups = r.groups;
-    let m = membership_in(group, groups);
-    let own = m.reference;
-    m.member & ((own == ABSOLUTE) | (own == reference))
+    let m = membership_in(group, r.groups);
+    m.member & ((m.reference == ABSOLUTE) | (m.reference == reference))
 }
 
 // The level that a module takes where its preset for the group is asked.
 fn preset_of(g: u8, r: Record) -> u8
     ensures { result ≡ preset g r }
 {
-    let groups = r.groups;
-    let m = membership_in(g, groups);
-    m.preset
+    membership_in(g, r.groups).preset
 }
 
 // The level that a member takes which a command for the group reaches.
@@ -128,24 +104,10 @@ fn act_level(act: Act, n: u8, r: Record) -> u8
     ensures { (own : House) → result ≡ (acted act own n r).level }
 {
     match act {
-        Act::Nothing => r.level,
-        Act::Address { unit: _ } => r.level,
         Act::Obey(f) => obeyed_level(f, r),
-        Act::Join {
-            unit: _,
-            group: _,
-            reference: _,
-        } => r.level,
         Act::Level { unit, level } => choose(n == unit, level_asked(level, r), r.level),
-        Act::JoinAt {
-            unit: _,
-            group: _,
-            level: _,
-        } => r.level,
         Act::UnitsOn => 63,
         Act::UnitsOff => 0,
-        Act::Leave { unit: _, groups: _ } => r.level,
-        Act::LeaveHouse { groups: _ } => r.level,
         Act::Group {
             group,
             reference,
@@ -155,6 +117,7 @@ fn act_level(act: Act, n: u8, r: Record) -> u8
             asked_level(ask, group, r),
             r.level,
         ),
+        _ => r.level,
     }
 }
 
@@ -163,18 +126,8 @@ fn obeyed_addressed(f: Function, r: Record) -> u8
     ensures { result ≡ (obeyed f r).addressed }
 {
     match f {
-        Function::On => r.addressed,
-        Function::Off => r.addressed,
-        Function::Dim => r.addressed,
-        Function::Bright => r.addressed,
-        Function::AllLightsOn => r.addressed,
-        Function::AllLightsOff => r.addressed,
         Function::AllUnitsOff => 0,
-        Function::HailRequest => r.addressed,
-        Function::HailAcknowledge => r.addressed,
-        Function::StatusOn => r.addressed,
-        Function::StatusOff => r.addressed,
-        Function::StatusRequest => r.addressed,
+        _ => r.addressed,
     }
 }
 
@@ -183,29 +136,9 @@ fn act_addressed(act: Act, house: House, n: u8, r: Record) -> u8
     ensures { result ≡ (acted act house n r).addressed }
 {
     match act {
-        Act::Nothing => r.addressed,
         Act::Address { unit } => choose(n == unit, 1, choose(house.heard == 1, 0, r.addressed)),
         Act::Obey(f) => obeyed_addressed(f, r),
-        Act::Join {
-            unit: _,
-            group: _,
-            reference: _,
-        } => r.addressed,
-        Act::Level { unit: _, level: _ } => r.addressed,
-        Act::JoinAt {
-            unit: _,
-            group: _,
-            level: _,
-        } => r.addressed,
-        Act::UnitsOn => r.addressed,
-        Act::UnitsOff => r.addressed,
-        Act::Leave { unit: _, groups: _ } => r.addressed,
-        Act::LeaveHouse { groups: _ } => r.addressed,
-        Act::Group {
-            group: _,
-            reference: _,
-            ask: _,
-        } => r.addressed,
+        _ => r.addressed,
     }
 }
 
@@ -221,14 +154,7 @@ fn membership_told(told: u8, m: Membership, groups: Groups, k: u8) -> Membership
     ensures { result ≡ pick (bit k told) m (membership k groups) }
 {
     let old = membership_in(k, groups);
-    let now = bit_of(k, told);
-    let was = old.member;
-    let is = m.member;
-    Membership {
-        member: (now & is) | (!now & was),
-        preset: choose(now, m.preset, old.preset),
-        reference: choose(now, m.reference, old.reference),
-    }
+    choose(bit_of(k, told), m, old)
 }
 
 // The groups with the membership given in those told, a bit each.
@@ -238,18 +164,16 @@ fn regrouped(told: u8, m: Membership, groups: Groups) -> Groups
     let mut mask: u8 = 0;
     let mut presets = [0; GROUPS];
     let mut references = [0; GROUPS];
-    let mut k: usize = 0;
-    while k < GROUPS {
+    for k in 0..GROUPS {
         let own = membership_told(told, m, groups, k as u8);
         mask = mask + choose(own.member, only(k as u8), 0);
         presets[k] = own.preset;
         references[k] = own.reference;
-        k += 1;
     }
     Groups {
-        mask: mask,
-        presets: presets,
-        references: references,
+        mask,
+        presets,
+        references,
     }
 }
 
@@ -262,7 +186,7 @@ fn join(g: u8, x: u8, reference: u8, groups: Groups) -> Groups
         Membership {
             member: true,
             preset: x,
-            reference: lower(ABSOLUTE, reference),
+            reference: ABSOLUTE.min(reference),
         },
         groups,
     )
@@ -283,73 +207,38 @@ fn leave(told: u8, groups: Groups) -> Groups
     )
 }
 
-// One of two, by a test.
-fn choose_groups(b: bool, x: Groups, y: Groups) -> Groups
-    ensures { result ≡ pick b x y }
-{
-    if b { x } else { y }
-}
-
 // False for the acts that are about groups, joining and leaving. These leave every level and every "addressed" byte, and all others the groups.
 pub fn keeps_groups(act: Act) -> bool
     ensures { result ≡ keeps_groups act }
 {
-    match act {
-        Act::Nothing => true,
-        Act::Address { unit: _ } => true,
-        Act::Obey(_) => true,
-        Act::Join {
-            unit: _,
-            group: _,
-            reference: _,
-        } => false,
-        Act::Level { unit: _, level: _ } => true,
-        Act::JoinAt {
-            unit: _,
-            group: _,
-            level: _,
-        } => false,
-        Act::UnitsOn => true,
-        Act::UnitsOff => true,
-        Act::Leave { unit: _, groups: _ } => false,
-        Act::LeaveHouse { groups: _ } => false,
-        Act::Group {
-            group: _,
-            reference: _,
-            ask: _,
-        } => true,
-    }
+    !matches!(
+        act,
+        Act::Join { .. } | Act::JoinAt { .. } | Act::Leave { .. } | Act::LeaveHouse { .. }
+    )
 }
 
 // The groups that an act leaves a module that is unit n, whatever the house's own bytes.
 fn act_groups(act: Act, n: u8, r: Record) -> Groups
     ensures { (own : House) → result ≡ (acted act own n r).groups }
 {
-    let groups = r.groups;
     match act {
-        Act::Nothing => groups,
-        Act::Address { unit: _ } => groups,
-        Act::Obey(_) => groups,
         Act::Join {
             unit,
             group,
             reference,
-        } => choose_groups(n == unit, join(group, r.level, reference, groups), groups),
-        Act::Level { unit: _, level: _ } => groups,
-        Act::JoinAt { unit, group, level } => choose_groups(
+        } => choose(
             n == unit,
-            join(group, level_asked(level, r), ABSOLUTE, groups),
-            groups,
+            join(group, r.level, reference, r.groups),
+            r.groups,
         ),
-        Act::UnitsOn => groups,
-        Act::UnitsOff => groups,
-        Act::Leave { unit, groups: told } => choose_groups(n == unit, leave(told, groups), groups),
-        Act::LeaveHouse { groups: told } => leave(told, groups),
-        Act::Group {
-            group: _,
-            reference: _,
-            ask: _,
-        } => groups,
+        Act::JoinAt { unit, group, level } => choose(
+            n == unit,
+            join(group, level_asked(level, r), ABSOLUTE, r.groups),
+            r.groups,
+        ),
+        Act::Leave { unit, groups } => choose(n == unit, leave(groups, r.groups), r.groups),
+        Act::LeaveHouse { groups } => leave(groups, r.groups),
+        _ => r.groups,
     }
 }
 
@@ -371,8 +260,7 @@ pub fn addressed_after(act: Act, house: House, n: u8, r: Record) -> u8
 pub fn groups_after(act: Act, n: u8, r: Record) -> Groups
     ensures { (own : House) → result ≡ (step_record act own n r).groups }
 {
-    let groups = r.groups;
-    choose_groups(r.kind == 0, groups, act_groups(act, n, r))
+    choose(r.kind == 0, r.groups, act_groups(act, n, r))
 }
 
 // The "command heard" byte after an act, where it was x before.
@@ -380,29 +268,9 @@ fn heard_after(act: Act, x: u8) -> u8
     ensures { result ≡ heard_after act x }
 {
     match act {
-        Act::Nothing => x,
-        Act::Address { unit: _ } => 0,
+        Act::Address { .. } => 0,
         Act::Obey(_) => 1,
-        Act::Join {
-            unit: _,
-            group: _,
-            reference: _,
-        } => x,
-        Act::Level { unit: _, level: _ } => x,
-        Act::JoinAt {
-            unit: _,
-            group: _,
-            level: _,
-        } => x,
-        Act::UnitsOn => x,
-        Act::UnitsOff => x,
-        Act::Leave { unit: _, groups: _ } => x,
-        Act::LeaveHouse { groups: _ } => x,
-        Act::Group {
-            group: _,
-            reference: _,
-            ask: _,
-        } => x,
+        _ => x,
     }
 }
 

@@ -3,6 +3,7 @@
 --     address_levels      the levels after an address
 --     address_shutters    the shutters after it
 --     address_counts      what differs from the room before it differs from the room after it
+use Rattle.std.specs.Prelude.{Result, Ok, Err}
 use mathlib.Core.Path.{◌≡◌, refl, sym, ap, ap₂, subst}
 use mathlib.Core.Bool.{Bool, true, false, true≢false}
 use Prim.Native.Nat.{ℕ, ◌/◌, ◌%◌, ◌<◌}
@@ -12,7 +13,7 @@ use Rattle.ground.proofs.Records.{differing_before}
 use Rattle.message.specs.declared.Message.TheVariants.{Address as Calls}
 use Rattle.plan.specs.declared.Act.TheVariants.{Address}
 use Rattle.plan.specs.declared.Plan.{Plan}
-use Rattle.plan.specs.declared.Plan.TheVariants.{Run, Move, Refused}
+use Rattle.plan.specs.declared.Plan.TheVariants.{Run, Move}
 use Rattle.record.specs.Layout.{RECORDS, UNITS, record_at, house_at, present, modules}
 use Rattle.record.specs.ModuleTable.{acted, step_record, level_of}
 use Rattle.record.specs.declared.Record.{Record}
@@ -21,14 +22,15 @@ use Rattle.module_table.proofs.HouseLaws.{run_record}
 use Rattle.shutter_table.specs.ShutterTable.{openings_changed}
 use Rattle.room.specs.Rooms.{Room, changes, room_after}
 use Rattle.room.proofs.ApplyLaws.{Outcome, stays, did, moved, outcome, modules_size}
+use Rattle.ground.specs.declared.Refusal.{Refusal}
 
 -- the act of a plan leaves each level
-abbrev Keeps : Plan → Type 0
-Keeps (Run a) = (own : House) (n : ℕ) (r : Record) → (step_record a own n r).level ≡ r.level
-Keeps (Move a) = Unit {0}
-Keeps (Refused why) = Unit {0}
+abbrev Keeps : Result Plan Refusal → Type 0
+Keeps (Ok (Run a)) = (own : House) (n : ℕ) (r : Record) → (step_record a own n r).level ≡ r.level
+Keeps (Ok (Move a)) = Unit {0}
+Keeps (Err why) = Unit {0}
 
-address_keeps : (u : ℕ) → Keeps (Run (Address u))
+address_keeps : (u : ℕ) → Keeps (Ok (Run (Address u)))
 unfolding step_record
 address_keeps u own n r = pick_both (λ (s : Record). s.level ≡ r.level) (present r) (acted (Address u) own n r) r refl refl
 
@@ -40,7 +42,7 @@ address_levels h u room i below = go (outcome (Calls h u) room)
     go (stays why e same) = ap (λ (x : Room). (record_at x.modules i).level) same
     go (did a r) =
         let t = room.modules in
-        let keeps : Keeps (Run a) = subst Keeps r.plan (address_keeps u) in
+        let keeps : Keeps (Ok (Run a)) = subst Keeps r.plan (address_keeps u) in
         rw (r.left, run_record a h t i below (modules_size room r.ok))
         (pick_both (λ (x : Record). x.level ≡ (record_at t i).level) (eqb (i / UNITS) h) _ _ (keeps (house_at t h) (i % UNITS) (record_at t i)) refl)
     go (moved a r) = rw r.left
@@ -48,10 +50,10 @@ address_levels h u room i below = go (outcome (Calls h u) room)
 pub address_shutters : (h u : ℕ) (room : Room) → (room_after (Calls h u) room).shutters ≡ room.shutters
 address_shutters h u room = go (outcome (Calls h u) room)
   where
-    asks_motion : Plan → Bool
-    asks_motion (Run a) = false
-    asks_motion (Move a) = true
-    asks_motion (Refused why) = false
+    asks_motion : Result Plan Refusal → Bool
+    asks_motion (Ok (Run a)) = false
+    asks_motion (Ok (Move a)) = true
+    asks_motion (Err why) = false
 
     go : Outcome (Calls h u) room → (room_after (Calls h u) room).shutters ≡ room.shutters
     go (stays why e same) = ap (λ (x : Room). x.shutters) same

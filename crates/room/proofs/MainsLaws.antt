@@ -2,7 +2,8 @@
 --
 --     room-append, answers_append, answers_length  events one after the other, in two parts
 --     given_valid                                  a message given leaves a valid room valid
---     zero_put, stretch_put                        a byte of 0 behind others; the answers to a stretch
+--     part_put, nought_put, answer_put             a part of a buffer written: bytes of 0, an answer
+--     stretch_put                                  the answers to a stretch
 --     stretch_room, stretch_answers_lem            what the events of a stretch make of the room, and their answers
 --     quiet                                        half-cycles that give no message
 --     remains_end                                  nothing is left to take
@@ -13,6 +14,7 @@
 --     route_faulty, route_stopped                  what it owes where the room is refused, or what else is lent
 --     put_held                                     the receiver put back
 --     mains_order                                  MainsOrder
+use Rattle.std.specs.Prelude.{Result, Ok, Err, Option, Some, None, ⊤}
 use mathlib.Core.Path.{◌≡◌, refl, sym, ap, ap₂, subst, ◌∙◌}
 use mathlib.Core.Bool.{true, false, false≢true}
 use mathlib.Core.List.{List, [], ◌∷◌, ◌++◌, append_assoc, append-nil, flat_map}
@@ -20,36 +22,34 @@ use Prim.Native.Nat.{ℕ, zero, suc, ◌+◌, ◌-◌, ◌*◌, ◌≤◌, ◌<�
 use native.Mathlib.Nat.{zero-add, suc-add}
 use native.Mathlib.Omega.{arith}
 use borrow.Author.Tests.{eq-eqb, le-leb}
-use lib.ListN.{length, set, drop, replicate, length-replicate, length-append, length-drop, drop_of_length-le}
-use lib.Seq.{sets, length-sets}
+use lib.ListN.{length, take, drop, replicate, length-replicate, length-append, length-drop, drop_of_length-le}
+use lib.Seq.{sets, sets-eq, length-sets, drop-drop}
+use borrow.Rule.Slice.PartMut.{put_mid}
+use Rattle.std.specs.Int.{w64, to_le_bytes}
 use Rattle.ground.specs.Refusals.{judged, reports, refuses}
-use Rattle.ground.specs.declared.CountAnswer.{CountAnswer}
 use Rattle.ground.specs.declared.Refusal.{Refusal}
 use Rattle.ground.proofs.Causes.{refused_told}
 use Rattle.ground.proofs.Lists.{sets-append, sets-front}
 use Rattle.receiver.specs.Receivers.{receiver_ok, step_of}
 use Rattle.receiver.specs.Hearing.{events_of, receiver_after, given_by, else_given, first_given, else_more, to_given}
 use Rattle.receiver.specs.Bytes.{receiver_in, holds_receiver, receiver_bytes, event_bytes, events_heard, bytes_after, put_after, stretch_of, stretch_events}
-use Rattle.receiver.specs.declared.Given.{Given}
-use Rattle.receiver.specs.declared.Given.TheVariants.{No, Yes}
 use Rattle.receiver.specs.declared.Receiver.{Receiver}
 use Rattle.receiver.specs.declared.Event.{Event}
 use Rattle.receiver.specs.declared.lent.Stretch.{Stretch}
-use Rattle.receiver.specs.declared.lent.ReceiverRead.TheVariants.{Receiver as Is}
 use Rattle.receiver.proofs.ReadBack.{run_valid, held_length}
 use Rattle.receiver.proofs.RunLaws.{events_length}
 use Rattle.receiver.proofs.Stretches.{Toward, to_most, to_some, events_on, rest_on, stretch_told}
 use Rattle.room.specs.Rooms.{Room, room_ok, changes, room_report}
-use Rattle.room.specs.Lent.{room_verdict, is_given, place_of, stretch_answers, Prepared, Remains, remains, remains_by}
+use Rattle.std.specs.Option.{is_some}
+use Rattle.std.specs.Result.{result_unwrap_or}
+use Rattle.room.specs.Lent.{room_verdict, stretch_answers, Prepared, Remains, remains, remains_by}
 use Rattle.room.specs.Mains.{room_given, answer_given, answer_bytes, room_heard, answers_heard, Lending}
 use Rattle.room.specs.Mains.{lent_to, lent_causes, mains_causes, mains_room, mains_answer, mains_report, mains_after}
 use Rattle.room.specs.Mains.{mains_lent, lent_after}
 use Rattle.room.specs.Statements.{MainsOrder}
-use Rattle.room.specs.declared.RoomAnswer.{RoomAnswer}
-use Rattle.room.specs.declared.RoomAnswer.TheVariants.{Done, Refused}
-use Rattle.room.specs.declared.RoomJudged.{RoomJudged}
-use Rattle.room.specs.declared.RoomJudged.TheVariants.{Fine, Refused as Faulty}
 use Rattle.room.proofs.ApplyLaws.{valid_parts, valid_stays, by_verdict}
+use Rattle.room.specs.declared.Changes.{Changes}
+use Rattle.message.specs.declared.Message.{Message}
 
 -- ---- events one after the other
 
@@ -76,9 +76,9 @@ answers_length r (h ∷ hs) room =
     let eight : length a ≡ 8 = refl in
     length-append a (answers_heard (events_of s.next hs) next) ∙ omega (arith, eight, answers_length s.next hs next)
 
-pub given_valid : (g : Given) (room : Room) → room_ok room ≡ true → room_ok (room_given g room) ≡ true
-given_valid No room ok = ok
-given_valid (Yes m) room ok = valid_stays m room ok
+pub given_valid : (g : Option Message) (room : Room) → room_ok room ≡ true → room_ok (room_given g room) ≡ true
+given_valid None room ok = ok
+given_valid (Some m) room ok = valid_stays m room ok
 
 -- ---- a stretch
 
@@ -93,14 +93,27 @@ zeros (suc n) k = ap (λ (l : List ℕ). 0 ∷ l) (zeros n k) ∙ ap nought (sym
 eight_more : (n : ℕ) → nought 8 ++ nought (8 * n) ≡ nought (8 * suc n)
 eight_more n = let more : 8 + 8 * n ≡ 8 * suc n = omega arith in zeros 8 (8 * n) ∙ ap nought more
 
-pub zero_put : (a : List ℕ) (p n : ℕ) → set (sets a p (replicate n 0)) (p + n) 0 ≡ sets a p (replicate (n + 1) 0)
-zero_put a p n =
-    ap (λ (k : ℕ). sets (sets a p (nought n)) (p + k) (nought 1)) (sym (length-replicate n 0))
-    ∙ sym (sets-append a p (nought n) (nought 1))
-    ∙ ap (sets a p) (zeros n 1)
+-- a part of a buffer written in one go
+pub part_put : (a ys : List ℕ) (p k : ℕ) → p + k ≤ length a → length ys ≡ k → put_mid p k a ys ≡ sets a p ys
+part_put a ys p k room long =
+    ap (λ (l : List ℕ). take p a ++ (ys ++ l)) (drop-drop k p a ∙ ap (λ (n : ℕ). drop (p + n) a) (sym long))
+    ∙ sym (append_assoc (take p a) ys (drop (p + length ys) a))
+    ∙ sym (sets-eq ys a p (omega arith))
+
+pub nought_put : (a ys : List ℕ) (from to : ℕ) → from ≤ to → 8 * to ≤ length a → ys ≡ replicate (8 * to - 8 * from) 0
+    → put_mid (8 * from) (8 * to - 8 * from) a ys ≡ sets a (8 * from) (replicate (8 * (to - from)) 0)
+nought_put a ys from to some room is =
+    let count : 8 * to - 8 * from ≡ 8 * (to - from) = omega arith in
+    part_put a ys (8 * from) (8 * to - 8 * from) (omega arith) (ap length is ∙ length-replicate (8 * to - 8 * from) 0)
+    ∙ ap (sets a (8 * from)) (is ∙ ap nought count)
+
+pub answer_put : (a ys : List ℕ) (p k n : ℕ) → p + 8 ≤ length a → k ≡ 8 → ys ≡ to_le_bytes w64 n → put_mid p k a ys ≡ sets a p (answer_bytes n)
+answer_put a ys p k n room eight is =
+    part_put a ys p k (omega arith) (ap length is ∙ sym eight)
+    ∙ ap (sets a p) is
 
 -- the answers to a stretch: 0 to all but the last
-pub stretch_put : (answers after answers' : List ℕ) (from to answer : ℕ) (given : Given) (room : Room) → from < to
+pub stretch_put : (answers after answers' : List ℕ) (from to answer : ℕ) (given : Option Message) (room : Room) → from < to
     → after ≡ sets answers (8 * from) (replicate (8 * (to - 1 - from)) 0) → answer ≡ answer_given given room
     → answers' ≡ sets after (8 * (to - 1)) (answer_bytes answer)
     → answers' ≡ sets answers (8 * from) (stretch_answers (to - from) given room)
@@ -125,10 +138,10 @@ module _ (room : Room) where
       next : Receiver
       next = (step_of r h).next
 
-      go : (g : Given) → room_heard (events_of next (to_given next hs)) room ≡ room_given (first_given next hs) room
+      go : (g : Option Message) → room_heard (events_of next (to_given next hs)) room ≡ room_given (first_given next hs) room
           → room_heard (events_of next (else_more g (to_given next hs))) (room_given g room) ≡ room_given (else_given g (first_given next hs)) room
-      go No e = e
-      go (Yes m) e = refl
+      go None e = e
+      go (Some m) e = refl
 
   pub stretch_answers_lem : (r : Receiver) (hs : List ℕ) → 0 < length hs
       → answers_heard (events_of r (to_given r hs)) room ≡ stretch_answers (length (to_given r hs)) (first_given r hs) room
@@ -139,13 +152,13 @@ module _ (room : Room) where
       next : Receiver
       next = (step_of r h).next
 
-      go : (g : Given) (l : List ℕ)
+      go : (g : Option Message) (l : List ℕ)
           → (0 < length l → answers_heard (events_of next (to_given next l)) room ≡ stretch_answers (length (to_given next l)) (first_given next l) room)
           → answer_bytes (answer_given g room) ++ answers_heard (events_of next (else_more g (to_given next l))) (room_given g room)
           ≡ stretch_answers (suc (length (else_more g (to_given next l)))) (else_given g (first_given next l)) room
-      go (Yes m) l later = append-nil (answer_bytes (answer_given (Yes m) room))
-      go No [] later = refl
-      go No (x ∷ l) later =
+      go (Some m) l later = append-nil (answer_bytes (answer_given (Some m) room))
+      go None [] later = refl
+      go None (x ∷ l) later =
           let last : List ℕ = answer_bytes (answer_given (first_given next (x ∷ l)) room) in
           let n : ℕ = length (to_given next (x ∷ l)) in
           let some' = to_some next (x ∷ l) (omega arith) in
@@ -155,7 +168,7 @@ module _ (room : Room) where
           ∙ ap (λ (z : List ℕ). z ++ last) (eight_more (n - 1) ∙ ap (λ (k : ℕ). nought (8 * k)) one_less)
 
   -- half-cycles that give no message
-  pub quiet : (r : Receiver) (hs : List ℕ) → first_given r hs ≡ No
+  pub quiet : (r : Receiver) (hs : List ℕ) → first_given r hs ≡ None
       → (to_given r hs ≡ hs) × (room_heard (events_of r hs) room ≡ room) × (answers_heard (events_of r hs) room ≡ replicate (8 * length hs) 0)
   unfolding room_heard answers_heard events_of to_given first_given
   quiet r [] none = (refl, refl, refl)
@@ -164,14 +177,14 @@ module _ (room : Room) where
       next : Receiver
       next = (step_of r h).next
 
-      go : (g : Given) → else_given g (first_given next hs) ≡ No
-          → (first_given next hs ≡ No
+      go : (g : Option Message) → else_given g (first_given next hs) ≡ None
+          → (first_given next hs ≡ None
           → (to_given next hs ≡ hs) × (room_heard (events_of next hs) room ≡ room) × (answers_heard (events_of next hs) room ≡ nought (8 * length hs)))
           → (h ∷ else_more g (to_given next hs) ≡ h ∷ hs)
           × (room_heard (events_of next hs) (room_given g room) ≡ room)
           × (answer_bytes (answer_given g room) ++ answers_heard (events_of next hs) (room_given g room) ≡ nought (8 * suc (length hs)))
-      go (Yes m) e later = absurd (false≢true (sym (ap is_given e)))
-      go No e later =
+      go (Some m) e later = absurd (false≢true (sym (ap is_some e)))
+      go None e later =
           let t = later e in (
             ap (λ (l : List ℕ). h ∷ l) t.0,
             t.1,
@@ -189,7 +202,7 @@ module _ (hs : List ℕ) (r : Receiver) (i : ℕ) (room : Room) (events answers 
   remains_end none = let e : drop i hs ≡ [] = drop_of_length-le hs none in rw e refl
 
   -- by those of the half-cycles after a stretch
-  remains_on : (to : ℕ) (next : Receiver) (given : Given) (events' answers' : List ℕ) → i < length hs → Toward hs r i events to next given events'
+  remains_on : (to : ℕ) (next : Receiver) (given : Option Message) (events' answers' : List ℕ) → i < length hs → Toward hs r i events to next given events'
       → answers' ≡ sets answers (8 * i) (stretch_answers (to - i) given room)
       → remains_by hs next to (room_given given room) events' answers' ≡ remains_by hs r i room events answers
   unfolding remains_by
@@ -200,11 +213,11 @@ module _ (hs : List ℕ) (r : Receiver) (i : ℕ) (room : Room) (events answers 
       let some : 0 < length (drop i hs) = omega (arith, length-drop i hs) in
       let all : events_of r (drop i hs) ≡ es ++ fs = events_on hs r i events to next given events' t in
       let on = rest_on hs r i events to next given events' t in
-      let room-on : room_heard es room ≡ room_given given room = stretch_room room r (drop i hs) ∙ ap (λ (g : Given). room_given g room) (sym t.message) in
+      let room-on : room_heard es room ≡ room_given given room = stretch_room room r (drop i hs) ∙ ap (λ (g : Option Message). room_given g room) (sym t.message) in
       let long : to - i ≡ length taken = omega (arith, t.place) in
       let first : answers_heard es room ≡ stretch_answers (to - i) given room
       = stretch_answers_lem room r (drop i hs) some
-      ∙ ap₂ (λ (n : ℕ) (g : Given). stretch_answers n g room) (sym long) (sym t.message) in
+      ∙ ap₂ (λ (n : ℕ) (g : Option Message). stretch_answers n g room) (sym long) (sym t.message) in
       let place : 8 * to ≡ 8 * i + length (answers_heard es room) = omega (arith, t.place, answers_length r taken room) in
       same_remains on.1
       (ap (room_heard fs) (sym room-on) ∙ sym (room-append es fs room) ∙ ap (λ (l : List Event). room_heard l room) (sym all))
@@ -248,11 +261,11 @@ pub record Turn (hs : List ℕ) (r : Receiver) (i : ℕ) (room : Room) (events a
 
 pub turn : (hs : List ℕ) (r : Receiver) (i : ℕ) (room : Room) (events answers : List ℕ) → Prepared r hs i room events answers
     → (o : Stretch) (events' : List ℕ) (to : ℕ) → o ≡ stretch_of r hs i (length events) → events' ≡ stretch_events r hs i events
-    → to ≡ place_of o.answer (length hs)
+    → to ≡ result_unwrap_or o.answer (length hs)
     → Turn hs r i room events answers o events' to
 turn hs r i room events answers ready o events' to ran put place =
     let told = stretch_told hs r i events ready.receiver o events' ready.events_space ran put in
-    let at : to ≡ i + length (to_given r (drop i hs)) = place ∙ ap (λ (a : CountAnswer). place_of a (length hs)) told.0 in
+    let at : to ≡ i + length (to_given r (drop i hs)) = place ∙ ap (λ (a : Result ℕ Refusal). result_unwrap_or a (length hs)) told.0 in
     let toward = subst (λ (n : ℕ). Toward hs r i events n o.next o.given events') (sym at) told.1 in
     let long = length-drop i hs in
     let within : to ≤ length hs = omega (arith, at, ready.place, to_most r (drop i hs), long) in
@@ -279,15 +292,15 @@ turn hs r i room events answers ready o events' to ran put place =
     }
 
 -- a message comes of some half-cycle
-pub given_some : (hs : List ℕ) {r : Receiver} {evs : List ℕ} {to : ℕ} {next : Receiver} {given : Given} {after : List ℕ}
-    → Toward hs r 0 evs to next given after → is_given given ≡ true → 0 < length hs
+pub given_some : (hs : List ℕ) {r : Receiver} {evs : List ℕ} {to : ℕ} {next : Receiver} {given : Option Message} {after : List ℕ}
+    → Toward hs r 0 evs to next given after → is_some given ≡ true → 0 < length hs
 unfolding first_given
-given_some [] t e = absurd (false≢true (sym (ap is_given t.message) ∙ e))
+given_some [] t e = absurd (false≢true (sym (ap is_some t.message) ∙ e))
 given_some (h ∷ hs) t e = omega arith
 
 -- no message is given by any half-cycle
-pub remains_quiet : (hs : List ℕ) (r : Receiver) (room : Room) (events answers : List ℕ) (to : ℕ) (next : Receiver) (given : Given) (events' answers' : List ℕ)
-    → Toward hs r 0 events to next given events' → is_given given ≡ false → answers' ≡ sets answers 0 (replicate (8 * (to - 0)) 0)
+pub remains_quiet : (hs : List ℕ) (r : Receiver) (room : Room) (events answers : List ℕ) (to : ℕ) (next : Receiver) (given : Option Message) (events' answers' : List ℕ)
+    → Toward hs r 0 events to next given events' → is_some given ≡ false → answers' ≡ sets answers 0 (replicate (8 * (to - 0)) 0)
     → remains next room events' answers' ≡ remains_by hs r 0 room events answers
 unfolding remains_by
 remains_quiet hs r room events answers to next given events' answers' t none put =
@@ -297,9 +310,9 @@ remains_quiet hs r room events answers to next given events' answers' t none put
     (t.events ∙ ap (λ (l : List ℕ). sets events 0 (flat_map event_bytes (events_of r l))) q.0)
     (put ∙ ap (λ (n : ℕ). sets answers 0 (nought (8 * n))) all ∙ ap (sets answers 0) (sym q.2))
   where
-    no : (g : Given) → is_given g ≡ false → g ≡ No
-    no No e = refl
-    no (Yes m) e = absurd (false≢true (sym e))
+    no : (g : Option Message) → is_some g ≡ false → g ≡ None
+    no None e = refl
+    no (Some m) e = absurd (false≢true (sym e))
 
 -- ---- the call
 
@@ -307,7 +320,7 @@ remains_quiet hs r room events answers to next given events' answers' t none put
 lent_same : (h : List ℕ) {s s' e e' a a' : List ℕ} → s ≡ s' → e ≡ e' → a ≡ a' → lent_to s h e a ≡ lent_to s' h e' a'
 lent_same h p q r = rw (p, q, r)
 
-module _ (state halves events answers : List ℕ) (room : Room) (r : Receiver) (is : receiver_in state ≡ Is r)
+module _ (state halves events answers : List ℕ) (room : Room) (r : Receiver) (is : receiver_in state ≡ Ok r)
     (fits : 6 * length halves ≤ length events) (wide : 8 * length halves ≤ length answers) where
   pub route_done : (next : Receiver) (room' : Room) (state' events' answers' : List ℕ)
       → remains next room' events' answers' ≡ remains_by halves r 0 room events answers → state' ≡ receiver_bytes next
@@ -338,14 +351,14 @@ past_room done refused l room ok holds wide fits =
     rw (v.modules_as_long, v.shutters_as_long, v.modules_valid_lem, v.shutters_valid_lem, holds, w, x)
 
 -- what a call owes by what it answers and leaves
-abbrev pub RouteOwed : Lending → Room → RoomAnswer → Room → Lending → Type 0
+abbrev pub RouteOwed : Lending → Room → Result Changes Refusal → Room → Lending → Type 0
 RouteOwed l room o room' lent' =
     (o ≡ mains_answer l room) × ((room_report o ≡ mains_report l room) × ((room' ≡ mains_after l room) × (lent' ≡ lent_after l room)))
 
 -- one that is not refused
-pub route_owed : (l : Lending) (room : Room) (o : RoomAnswer) (room' : Room) (lent' : Lending) → room_ok room ≡ true → holds_receiver l.state ≡ true
+pub route_owed : (l : Lending) (room : Room) (o : Result Changes Refusal) (room' : Room) (lent' : Lending) → room_ok room ≡ true → holds_receiver l.state ≡ true
     → 8 * length l.halves ≤ length l.answers → 6 * length l.halves ≤ length l.events
-    → o ≡ Done (changes room (mains_room l room)) → room' ≡ mains_room l room → lent' ≡ mains_lent l room
+    → o ≡ Ok (changes room (mains_room l room)) → room' ≡ mains_room l room → lent' ≡ mains_lent l room
     → RouteOwed l room o room' lent'
 unfolding mains_answer mains_after lent_after
 route_owed l room o room' lent' ok holds wide fits e f g = (
@@ -357,23 +370,23 @@ route_owed l room o room' lent' ok holds wide fits e f g = (
 )
 
 -- one that is refused: by the verdict on the room, or, where that is fine, by what else is lent
-module _ (l : Lending) (room : Room) {v : RoomJudged} (judged-so : v ≡ room_verdict room) (why : Refusal) where
-  route_refused : refuses why ≡ judged (mains_causes l room) (reports {A = ℕ} []) refuses → RouteOwed l room (Refused why) room l
+module _ (l : Lending) (room : Room) {v : Result ⊤ Refusal} (judged-so : v ≡ room_verdict room) (why : Refusal) where
+  route_refused : refuses why ≡ judged (mains_causes l room) (reports {A = ℕ} []) refuses → RouteOwed l room (Err why) room l
   unfolding mains_answer mains_after lent_after
   route_refused e =
       let cs = mains_causes l room in (
-        refused_told [] cs why e _ Refused,
+        refused_told [] cs why e _ Err,
         (refused_told [] cs why e _ refuses, (refused_told [] cs why e _ (λ w. room), refused_told [] cs why e _ (λ w. l))),
       )
 
-  pub route_faulty : v ≡ Faulty why → RouteOwed l room (Refused why) room l
+  pub route_faulty : v ≡ Err why → RouteOwed l room (Err why) room l
   route_faulty is = route_refused (sym (by_verdict (reports []) refuses (lent_causes l) room (sym is ∙ judged-so)))
 
-  pub route_stopped : v ≡ Fine → refuses why ≡ judged (lent_causes l) (reports {A = ℕ} []) refuses → RouteOwed l room (Refused why) room l
+  pub route_stopped : v ≡ Ok tt → refuses why ≡ judged (lent_causes l) (reports {A = ℕ} []) refuses → RouteOwed l room (Err why) room l
   route_stopped is e = route_refused (e ∙ sym (by_verdict (reports []) refuses (lent_causes l) room (sym is ∙ judged-so)))
 
 -- a receiver put into bytes that held one
-pub put_held : (state : List ℕ) (q next : Receiver) → receiver_in state ≡ Is q → receiver_ok next ≡ true → put_after next state ≡ receiver_bytes next
+pub put_held : (state : List ℕ) (q next : Receiver) → receiver_in state ≡ Ok q → receiver_ok next ≡ true → put_after next state ≡ receiver_bytes next
 unfolding put_after judged
 put_held state q next is ok = rw (eq-eqb (length state) 13 (held_length state q is), ok) refl
 

@@ -1,55 +1,41 @@
 -- What the private routines of a room promise beside the definitions of Rooms, Routes and Mains: both tables judged, one table's answer as the room's, a byte
 -- of each record kept, and half-cycles taken stretch after stretch, up to the first that gives MESSAGE.
-use Rattle.std.specs.Prelude.{ℕ, ◌+◌, ◌-◌, ◌*◌, ◌≤◌, ◌≡◌, Bool, true, false, length, get_or, drop, replicate}
+use Rattle.std.specs.Prelude.{ℕ, ◌+◌, ◌-◌, ◌*◌, ◌≤◌, ◌≡◌, true, length, get_or, drop, replicate, Result, Ok, Err, Option, ⊤}
 use mathlib.Core.List.{List, ◌++◌, flat_map}
 use Rattle.std.proofs.lemmas.List.Edits.{sets}
 use Rattle.ground.specs.Refusals.{judged}
-use Rattle.ground.specs.declared.CountAnswer.{CountAnswer}
-use Rattle.ground.specs.declared.CountAnswer.TheVariants.{Done, Refused}
 use Rattle.receiver.specs.Receivers.{receiver_ok}
 use Rattle.receiver.specs.Hearing.{events_of, receiver_after}
 use Rattle.receiver.specs.Bytes.{event_bytes}
-use Rattle.receiver.specs.declared.Given.{Given}
-use Rattle.receiver.specs.declared.Given.TheVariants.{No, Yes}
 use Rattle.receiver.specs.declared.Receiver.{Receiver}
-use Rattle.room.specs.declared.RoomAnswer.{RoomAnswer}
-use Rattle.room.specs.declared.RoomAnswer.TheVariants.{Done as Told, Refused as NotTold}
-use Rattle.room.specs.declared.RoomJudged.{RoomJudged}
-use Rattle.room.specs.declared.RoomJudged.TheVariants.{Fine, Refused as Faulty}
 use Rattle.room.specs.Rooms.{Room, room_ok}
 use Rattle.room.specs.Routes.{room_causes}
 use Rattle.room.specs.Mains.{answer_given, answer_bytes, room_heard, answers_heard}
+use Rattle.ground.specs.declared.Refusal.{Refusal}
+use Rattle.room.specs.declared.Changes.{Changes}
+use Rattle.message.specs.declared.Message.{Message}
 
 -- the second byte of record i, of so many bytes each: a module's level, a shutter's opening
 abbrev pub second_byte : ℕ → List ℕ → ℕ → ℕ
 second_byte size t i = get_or t (i * size + 1) 0
 
 -- whether a route can use both tables, or why not
-unfoldable pub room_verdict : Room → RoomJudged
-room_verdict room = judged (room_causes room) Fine Faulty
+unfoldable pub room_verdict : Room → Result ⊤ Refusal
+room_verdict room = judged (room_causes room) (Ok tt) Err
 
 -- what one of the two tables answers, as the room's answer: in the other nothing has changed
-abbrev pub levels_answer : CountAnswer → RoomAnswer
-levels_answer (Done n) = Told (record { levels = n; openings = 0 })
-levels_answer (Refused why) = NotTold why
+abbrev pub levels_answer : Result ℕ Refusal → Result Changes Refusal
+levels_answer (Ok n) = Ok (record { levels = n; openings = 0 })
+levels_answer (Err why) = Err why
 
-abbrev pub openings_answer : CountAnswer → RoomAnswer
-openings_answer (Done n) = Told (record { levels = 0; openings = n })
-openings_answer (Refused why) = NotTold why
+abbrev pub openings_answer : Result ℕ Refusal → Result Changes Refusal
+openings_answer (Ok n) = Ok (record { levels = 0; openings = n })
+openings_answer (Err why) = Err why
 
 -- ---- a stretch of half-cycles
 
-abbrev pub is_given : Given → Bool
-is_given No = false
-is_given (Yes m) = true
-
--- the place that a run has come to, and the end where it was refused
-abbrev pub place_of : CountAnswer → ℕ → ℕ
-place_of (Done at) end = at
-place_of (Refused why) end = end
-
 -- the answers to n half-cycles, of which the last may have given a message
-abbrev pub stretch_answers : ℕ → Given → Room → List ℕ
+abbrev pub stretch_answers : ℕ → Option Message → Room → List ℕ
 stretch_answers n given room = replicate (8 * (n - 1)) 0 ++ answer_bytes (answer_given given room)
 
 -- ---- all half-cycles from a place on

@@ -1,31 +1,30 @@
 -- The mains route: half-cycles through the receiver in lent bytes, one after the other, and each message that it gives applied to the room
 -- before the next. It is given what a receiver is given (receiver's Bytes) and a buffer for what the tables answer.
-use Rattle.std.specs.Prelude.{ℕ, ◌*◌, ◌/◌, ◌%◌, ◌^◌, leb, length, drop}
+use Rattle.std.specs.Prelude.{ℕ, ◌*◌, ◌/◌, ◌%◌, ◌^◌, leb, length, drop, Result, Ok, Err, Option, Some, None}
 use mathlib.Core.List.{List, [], ◌∷◌, ◌++◌, flat_map}
 use Rattle.ground.specs.Refusals.{Report, reports, refuses, Cause, unless, judged}
 use Rattle.ground.specs.declared.Refusal.TheVariants as refusal
 use Rattle.receiver.specs.declared.Event.{Event}
-use Rattle.receiver.specs.declared.Given.{Given}
-use Rattle.receiver.specs.declared.Given.TheVariants.{No, Yes}
 use Rattle.receiver.specs.Hearing.{given_by}
 use Rattle.wire.specs.Packed.{packed}
 use Rattle.receiver.specs.Bytes.{holds_receiver, event_bytes, events_heard, bytes_after}
 use Rattle.room.specs.Rooms.{Room, changes, counts_of, room_after, apply_answer, tallied}
 use Rattle.room.specs.Routes.{room_causes}
-use Rattle.room.specs.declared.RoomAnswer.{RoomAnswer}
-use Rattle.room.specs.declared.RoomAnswer.TheVariants.{Done, Refused}
+use Rattle.ground.specs.declared.Refusal.{Refusal}
+use Rattle.room.specs.declared.Changes.{Changes}
+use Rattle.message.specs.declared.Message.{Message}
 
 -- ---- one event
 
 -- the room after an event: the message of MESSAGE is applied, and no other event gives one
-abbrev pub room_given : Given → Room → Room
-room_given No room = room
-room_given (Yes m) room = room_after m room
+abbrev pub room_given : Option Message → Room → Room
+room_given None room = room
+room_given (Some m) room = room_after m room
 
 -- what the tables answer to it, as one number: 0 where there is no message; else 0 with both counts, 4 where it is not carried, 18 for an opening above 25
-abbrev pub answer_given : Given → Room → ℕ
-answer_given No room = 0
-answer_given (Yes m) room = packed (tallied (apply_answer m room))
+abbrev pub answer_given : Option Message → Room → ℕ
+answer_given None room = 0
+answer_given (Some m) room = packed (tallied (apply_answer m room))
 
 -- that number in eight bytes, the lowest first
 abbrev pub answer_bytes : ℕ → List ℕ
@@ -75,8 +74,8 @@ abbrev pub mains_room : Lending → Room → Room
 mains_room l room = room_heard (heard l) room
 
 -- the answer: the counts are over the whole call, and a message that is not carried is no refusal of it
-unfoldable pub mains_answer : Lending → Room → RoomAnswer
-mains_answer l room = judged (mains_causes l room) (Done (changes room (mains_room l room))) Refused
+unfoldable pub mains_answer : Lending → Room → Result Changes Refusal
+mains_answer l room = judged (mains_causes l room) (Ok (changes room (mains_room l room))) Err
 
 -- its number and counts
 abbrev pub mains_report : Lending → Room → Report ℕ

@@ -1,20 +1,17 @@
 -- A message applied to a room (01, 'The module table', 'Numbers given back'; 02, A1): why it is refused, what is answered, and what is left.
-use Rattle.std.specs.Prelude.{ℕ, ◌+◌, ◌*◌, ◌%◌, ◌^◌, Bool, ◌&&◌, List, [], ◌∷◌, eqb, length}
+use Rattle.std.specs.Prelude.{ℕ, ◌+◌, ◌*◌, ◌%◌, ◌^◌, Bool, ◌&&◌, List, [], ◌∷◌, eqb, length, Result, Ok, Err}
 use Rattle.ground.specs.Refusals.{Cause, unless, judged, Report, reports, refuses}
 use Rattle.ground.specs.declared.Refusal.TheVariants as refusal
 use Rattle.message.specs.Messages.{message_ok}
 use Rattle.message.specs.declared.Message.{Message}
 use Rattle.plan.specs.Plans.{house_of, plan_of, carried, fits}
 use Rattle.plan.specs.declared.Plan.{Plan}
-use Rattle.plan.specs.declared.Plan.TheVariants.{Run, Move, Refused as NoPlan}
+use Rattle.plan.specs.declared.Plan.TheVariants.{Run, Move}
 use Rattle.record.specs.Layout.{TABLE_BYTES}
 use Rattle.record.specs.ModuleTable.{table_ok, run_act, changed}
 use Rattle.shutter_table.specs.ShutterTable.{SHUTTER_TABLE_BYTES, shutters_ok, move_all, openings_changed}
-use Rattle.ground.specs.declared.CountAnswer.{CountAnswer}
-use Rattle.ground.specs.declared.CountAnswer.TheVariants.{Done as Counted, Refused as NotCounted}
 use Rattle.room.specs.declared.Changes.{Changes}
-use Rattle.room.specs.declared.RoomAnswer.{RoomAnswer}
-use Rattle.room.specs.declared.RoomAnswer.TheVariants.{Done, Refused}
+use Rattle.ground.specs.declared.Refusal.{Refusal}
 
 -- what messages change: the lent bytes of the module table and of the shutter table
 pub record Room : Type 0 where
@@ -63,10 +60,10 @@ apply_causes m room =
     ∷ []
 
 -- a plan carried out for a house: "Only type 0 changes shutters, and it never changes the module table."
-abbrev pub carried_out : ℕ → Plan → Room → Room
-carried_out h (Run a) room = record { modules = run_act a h room.modules; shutters = room.shutters }
-carried_out h (Move a) room = record { modules = room.modules; shutters = move_all a h room.shutters }
-carried_out h (NoPlan why) room = room
+abbrev pub carried_out : ℕ → Result Plan Refusal → Room → Room
+carried_out h (Ok (Run a)) room = record { modules = run_act a h room.modules; shutters = room.shutters }
+carried_out h (Ok (Move a)) room = record { modules = room.modules; shutters = move_all a h room.shutters }
+carried_out h (Err why) room = room
 
 -- the message carried out
 abbrev pub room_with : Message → Room → Room
@@ -77,8 +74,8 @@ unfoldable pub room_after : Message → Room → Room
 room_after m room = judged (apply_causes m room) (room_with m room) (λ why. room)
 
 -- the answer
-unfoldable pub apply_answer : Message → Room → RoomAnswer
-apply_answer m room = judged (apply_causes m room) (Done (changes room (room_with m room))) Refused
+unfoldable pub apply_answer : Message → Room → Result Changes Refusal
+apply_answer m room = judged (apply_causes m room) (Ok (changes room (room_with m room))) Err
 
 -- both counts
 abbrev pub counts_of : Changes → List ℕ
@@ -89,16 +86,16 @@ abbrev pub apply_report : Message → Room → Report ℕ
 apply_report m room = judged (apply_causes m room) (reports (counts_of (changes room (room_with m room)))) refuses
 
 -- those of an answer: "Each refusal .. returns its number with count 0"
-abbrev pub room_report : RoomAnswer → Report ℕ
-room_report (Done c) = reports (counts_of c)
-room_report (Refused why) = refuses why
+abbrev pub room_report : Result Changes Refusal → Report ℕ
+room_report (Ok c) = reports (counts_of c)
+room_report (Err why) = refuses why
 
 -- what has changed by an answer: nothing where it is a refusal
-abbrev pub changes_of : RoomAnswer → Changes
-changes_of (Done c) = c
-changes_of (Refused why) = no_changes
+abbrev pub changes_of : Result Changes Refusal → Changes
+changes_of (Ok c) = c
+changes_of (Err why) = no_changes
 
 -- the counts of an answer as one count: the levels in its lowest 16 bits, the openings in the next 16, and 0 above them
-abbrev pub tallied : RoomAnswer → CountAnswer
-tallied (Done c) = Counted (c.levels % 2 ^ 16 + c.openings % 2 ^ 16 * 2 ^ 16)
-tallied (Refused why) = NotCounted why
+abbrev pub tallied : Result Changes Refusal → Result ℕ Refusal
+tallied (Ok c) = Ok (c.levels % 2 ^ 16 + c.openings % 2 ^ 16 * 2 ^ 16)
+tallied (Err why) = Err why

@@ -1,13 +1,13 @@
 -- Messages applied to a room one after the other, how a route judges the room, and the radio route: a code through the reader. The mains route is in Mains.
-use Rattle.std.specs.Prelude.{ℕ, List, [], ◌∷◌, ◌++◌}
+use Rattle.std.specs.Prelude.{ℕ, List, [], ◌∷◌, ◌++◌, Result, Ok, Err}
 use Rattle.ground.specs.Refusals.{Report, reports, refuses, Cause, unless, judged}
 use Rattle.ground.specs.declared.Refusal.TheVariants as refusal
 use Rattle.message.specs.declared.Message.{Message}
 use Rattle.radio.specs.Codes.{command_of}
 use Rattle.radio.specs.Answers.{read_causes, messages_of}
 use Rattle.room.specs.Rooms.{Room, modules_long, shutters_long, modules_valid, shutters_valid, changes, counts_of, room_after}
-use Rattle.room.specs.declared.RoomAnswer.{RoomAnswer}
-use Rattle.room.specs.declared.RoomAnswer.TheVariants.{Done, Refused}
+use Rattle.ground.specs.declared.Refusal.{Refusal}
+use Rattle.room.specs.declared.Changes.{Changes}
 
 -- messages applied one after the other, each as `apply` does it
 unfoldable pub room_after_all : List Message → Room → Room
@@ -38,8 +38,8 @@ unfoldable pub radio_after : List ℕ → Room → Room
 radio_after code room = judged (radio_causes code room) (radio_room code room) (λ why. room)
 
 -- the answer: the counts are over both messages
-unfoldable pub radio_answer : List ℕ → Room → RoomAnswer
-radio_answer code room = judged (radio_causes code room) (Done (changes room (radio_room code room))) Refused
+unfoldable pub radio_answer : List ℕ → Room → Result Changes Refusal
+radio_answer code room = judged (radio_causes code room) (Ok (changes room (radio_room code room))) Err
 
 -- its number and counts
 abbrev pub radio_report : List ℕ → Room → Report ℕ

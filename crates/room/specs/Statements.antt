@@ -1,12 +1,11 @@
 -- What holds of every room: proofs/ApplyLaws.antt, proofs/RadioLaws.antt, proofs/MainsLaws.antt.
-use Rattle.std.specs.Prelude.{ℕ, ◌+◌, ◌*◌, ◌^◌, ◌≡◌, true, List, [], ◌∷◌, map}
+use Rattle.std.specs.Prelude.{ℕ, ◌+◌, ◌*◌, ◌^◌, ◌≡◌, true, List, [], ◌∷◌, map, Ok}
 use Rattle.ground.specs.Refusals.{cause_number}
 use Rattle.message.specs.declared.Message.{Message}
 use Rattle.wire.specs.Packed.{packed}
 use Rattle.room.specs.Rooms.{Room, room_ok, changes, apply_causes, room_after, tallied}
 use Rattle.room.specs.Routes.{radio_causes}
 use Rattle.room.specs.Mains.{Lending, mains_causes}
-use Rattle.room.specs.declared.RoomAnswer.TheVariants.{Done}
 
 -- a valid room stays valid, both tables
 abbrev pub ValidStays : Type 0
@@ -25,4 +24,4 @@ MainsOrder = (l : Lending) (room : Room) → map cause_number (mains_causes l ro
 -- the number of an exported answer holds both counts whole: the levels from bit 8 on, the openings from bit 24 on
 abbrev pub CountsPacked : Type 0
 CountsPacked =
-    (before after : Room) → let c = changes before after in packed (tallied (Done c)) ≡ c.levels * 2 ^ 8 + c.openings * 2 ^ 24
+    (before after : Room) → let c = changes before after in packed (tallied (Ok c)) ≡ c.levels * 2 ^ 8 + c.openings * 2 ^ 24

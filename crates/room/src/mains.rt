@@ -4,13 +4,14 @@ ghost use Rattle.std.proofs.lemmas.List.Edits.{sets};
 ghost use Rattle.ground.specs.Records.{differing};
 ghost use Rattle.record.specs.Layout.{RECORDS};
 ghost use Rattle.room.specs.Rooms.{room_of, room_ok, changes, room_report};
-ghost use Rattle.room.specs.Lent.{second_byte, is_given, place_of, stretch_answers, Prepared, remains, remains_by};
+ghost use Rattle.room.specs.Lent.{second_byte, stretch_answers, Prepared, remains, remains_by};
 ghost use Rattle.room.specs.Mains.{room_given, answer_given, answer_bytes, lent_to, mains_answer, mains_report, mains_after, lent_after};
 
-use crate::{Changes, RoomAnswer, RoomJudged, apply_valid, judge, tally};
-use ground::{CountAnswer, Refusal, count_of};
-use receiver::lent::{ReceiverRead, put_receiver, receiver_in, run_to_message};
-use receiver::{Given, Receiver};
+use crate::{Changes, apply_valid, judge, tally};
+use ground::{Refusal, count_of};
+use message::Message;
+use receiver::Receiver;
+use receiver::lent::{put_receiver, receiver_in, run_to_message};
 use record::{RECORD_BYTES, RECORDS};
 use shutter_table::SHUTTER_BYTES;
 use wire::pack;
@@ -28,10 +29,8 @@ fn second_bytes(t: &[u8], size: usize) -> [u8; 256]
     ensures { (k : ℕ) → k < RECORDS → get_or result k 0 ≡ second_byte size t.now k }
 {
     let mut kept = [0; 256];
-    let mut i: usize = 0;
-    while i < RECORDS {
+    for i in 0..RECORDS {
         kept[i] = t[i * size + 1];
-        i += 1;
     }
     kept
 }
@@ -43,10 +42,8 @@ fn changed_from(kept: [u8; 256], t: &[u8], size: usize) -> usize
         → result ≡ differing (second_byte size) RECORDS before t.now }
 {
     let mut count: usize = 0;
-    let mut i: usize = 0;
-    while i < RECORDS {
-        count = count + count_of(kept[i] == t[i * size + 1]);
-        i += 1;
+    for i in 0..RECORDS {
+        count += count_of(kept[i] == t[i * size + 1]);
     }
     count
 }
@@ -56,25 +53,18 @@ fn put_answer(answers: &mut [u8], at: usize, answer: u64)
     requires { at + 8 ≤ length answers.old }
     ensures { answers.new ≡ sets answers.old at (answer_bytes answer) }
 {
-    answers[at] = (answer % 256) as u8;
-    answers[at + 1] = (answer / 256 % 256) as u8;
-    answers[at + 2] = (answer / 65536 % 256) as u8;
-    answers[at + 3] = (answer / 16777216 % 256) as u8;
-    answers[at + 4] = (answer / 4294967296 % 256) as u8;
-    answers[at + 5] = (answer / 1099511627776 % 256) as u8;
-    answers[at + 6] = (answer / 281474976710656 % 256) as u8;
-    answers[at + 7] = (answer / 72057594037927936 % 256) as u8;
+    answers[at..at + 8].copy_from_slice(&answer.to_le_bytes());
 }
 
 // Applies the message given, if any, and answers as one number what the tables answered.
-fn answer_to(table: &mut [u8], shutters: &mut [u8], given: Given) -> u64
+fn answer_to(table: &mut [u8], shutters: &mut [u8], given: Option<Message>) -> u64
     requires { room_ok (room_of table.old shutters.old) ≡ true }
     ensures answer { result ≡ answer_given given (room_of table.old shutters.old) }
     ensures room { room_of table.new shutters.new ≡ room_given given (room_of table.old shutters.old) }
 {
     match given {
-        Given::No => 0,
-        Given::Yes(m) => pack(tally(apply_valid(table, shutters, m))),
+        None => 0,
+        Some(m) => pack(tally(apply_valid(table, shutters, m))),
     }
 }
 
@@ -83,11 +73,7 @@ fn no_answers(answers: &mut [u8], from: usize, to: usize)
     requires { (from ≤ to) × (8 * to ≤ length answers.old) }
     ensures { answers.new ≡ sets answers.old (8 * from) (replicate (8 * (to - from)) 0) }
 {
-    let mut k = 8 * from;
-    while k < 8 * to {
-        answers[k] = 0;
-        k += 1;
-    }
+    answers[8 * from..8 * to].fill(0);
 }
 
 // Puts the answers to a stretch of half-cycles, of which the last may have given a message, which is applied.
@@ -97,7 +83,7 @@ fn answer_stretch(
     answers: &mut [u8],
     from: usize,
     to: usize,
-    given: Given,
+    given: Option<Message>,
 )
     requires { (room_ok (room_of table.old shutters.old) ≡ true) × (from < to) × (8 * to ≤ length answers.old) }
     ensures room { room_of table.new shutters.new ≡ room_given given (room_of table.old shutters.old) }
@@ -109,17 +95,8 @@ fn answer_stretch(
     put_answer(answers, 8 * (to - 1), answer);
 }
 
-// The place that a run has come to, and the end where it was refused.
-fn place_of(answer: CountAnswer, end: usize) -> usize
-    ensures { result ≡ place_of answer end }
-{
-    match answer {
-        CountAnswer::Done(at) => at,
-        CountAnswer::Refused(_) => end,
-    }
-}
-
-// Half-cycles from a place on, stretch after stretch, each message applied before the next stretch.
+// Half-cycles from a place on, stretch after stretch, each message applied before the next stretch. Tables and buffers are handed on one by one:
+// of a struct of references every contract would have to say besides that each of them still leads to the same slice.
 fn heed(
     r: Receiver,
     halves: &[u8],
@@ -135,27 +112,15 @@ fn heed(
 {
     let mut current = r;
     let mut i = from;
+    // No counted loop: the place goes on by what a stretch took.
     while i < halves.len() {
         let stretch = run_to_message(current, halves, i, events);
-        let answer = stretch.answer;
-        let to = place_of(answer, halves.len());
-        let given = stretch.given;
-        answer_stretch(table, shutters, answers, i, to, given);
-        let next = stretch.next;
-        current = next;
+        let to = stretch.answer.unwrap_or(halves.len());
+        answer_stretch(table, shutters, answers, i, to, stretch.given);
+        current = stretch.next;
         i = to;
     }
     current
-}
-
-// Whether a message was given.
-fn gave(given: Given) -> bool
-    ensures { result ≡ is_given given }
-{
-    match given {
-        Given::No => false,
-        Given::Yes(_) => true,
-    }
 }
 
 // All half-cycles. The levels and openings before them are kept only where there is a message.
@@ -173,14 +138,12 @@ fn heed_all(
     ensures counts { result.changes ≡ changes (room_of table.old shutters.old) (room_of table.new shutters.new) }
 {
     let stretch = run_to_message(r, halves, 0, events);
-    let answer = stretch.answer;
-    let to = place_of(answer, halves.len());
-    let next = stretch.next;
+    let to = stretch.answer.unwrap_or(halves.len());
     let given = stretch.given;
-    if !gave(given) {
+    if given.is_none() {
         no_answers(answers, 0, to);
         return Heeded {
-            next: next,
+            next: stretch.next,
             changes: Changes {
                 levels: 0,
                 openings: 0,
@@ -190,7 +153,7 @@ fn heed_all(
     let levels = second_bytes(table, RECORD_BYTES);
     let openings = second_bytes(shutters, SHUTTER_BYTES);
     answer_stretch(table, shutters, answers, 0, to, given);
-    let last = heed(next, halves, to, table, shutters, events, answers);
+    let last = heed(stretch.next, halves, to, table, shutters, events, answers);
     Heeded {
         next: last,
         changes: Changes {
@@ -211,7 +174,7 @@ pub fn mains_route(
     shutters: &mut [u8],
     events: &mut [u8],
     answers: &mut [u8],
-) -> RoomAnswer
+) -> Result<Changes, Refusal>
     ensures answer { result ≡ mains_answer (lent_to state.old halves.now events.old answers.old)
         (room_of table.old shutters.old) }
     ensures report { room_report result ≡ mains_report (lent_to state.old halves.now events.old answers.old)
@@ -223,23 +186,15 @@ pub fn mains_route(
         ≡ lent_after (lent_to state.old halves.now events.old answers.old)
         (room_of table.old shutters.old) }
 {
-    match judge(table, shutters) {
-        RoomJudged::Refused(why) => RoomAnswer::Refused(why),
-        RoomJudged::Fine => match receiver_in(state) {
-            ReceiverRead::Receiver(r) => {
-                if answers.len() / 8 < halves.len() {
-                    return RoomAnswer::Refused(Refusal::Short);
-                }
-                if events.len() / 6 < halves.len() {
-                    return RoomAnswer::Refused(Refusal::Short);
-                }
-                let heeded = heed_all(r, halves, table, shutters, events, answers);
-                let next = heeded.next;
-                put_receiver(state, next);
-                let changes = heeded.changes;
-                RoomAnswer::Done(changes)
-            }
-            ReceiverRead::Refused(_) => RoomAnswer::Refused(Refusal::State),
-        },
+    judge(table, shutters)?;
+    let r = receiver_in(state)?;
+    if answers.len() / 8 < halves.len() {
+        return Err(Refusal::Short);
     }
+    if events.len() / 6 < halves.len() {
+        return Err(Refusal::Short);
+    }
+    let heeded = heed_all(r, halves, table, shutters, events, answers);
+    let _ = put_receiver(state, heeded.next);
+    Ok(heeded.changes)
 }

@@ -4,6 +4,7 @@
 --     line_carries             the messages of a line of bursts
 --     codes_carry              the messages of a list of codes
 --     bursts_as_codes          the theorem of specs/Demand2.antt
+use Rattle.std.specs.Prelude.{Result, Ok, Err}
 use mathlib.Core.Path.{◌≡◌, refl, sym, ap, ap₂, subst, ◌∙◌}
 use mathlib.Core.Bool.{true, and-eq-true_iff}
 use mathlib.Core.List.{List, [], ◌∷◌, ◌++◌, map, flat_map}
@@ -38,8 +39,6 @@ use Rattle.radio.specs.Codes.{four_bytes, command_ok, command_of}
 use Rattle.radio.specs.Answers.{read_causes, read_answer, messages_of}
 use Rattle.radio.specs.declared.RadioCommand.{RadioCommand}
 use Rattle.radio.specs.declared.RadioCommand.TheVariants.{On, Off, Bright, Dim}
-use Rattle.radio.specs.declared.RadioRead.{RadioRead}
-use Rattle.radio.specs.declared.RadioRead.TheVariants as read
 use Rattle.radio.proofs.AnswerLaws.{read_given}
 use Rattle.room_laws.specs.Demand2.{radio, meant_by, Sending, on_line, lending, to_fresh, Spaced, AllOk, BurstsAsCodes}
 use Rattle.room.specs.Mains.{lent_causes}
@@ -119,15 +118,15 @@ line_carries (s ∷ more) r spaced valid h =
     ∙ ap₂ ◌++◌ (told_burst s.gap s.message) (line_carries more heard.stands spaced.1 valid.1 heard.rests)
 
 -- what the reader answers means
-abbrev meant_if : RadioRead → List Message
-meant_if (read.Command k) = messages_of k
-meant_if (read.Refused why) = []
+abbrev meant_if : Result RadioCommand Refusal → List Message
+meant_if (Ok k) = messages_of k
+meant_if (Err why) = []
 
 code_means : (k : RadioCommand) → command_ok k ≡ true → meant_by (four_bytes k) ≡ messages_of k
 unfolding meant_by read_answer
 code_means k ok =
     let code = four_bytes k in
-    sym (judged_map meant_if (read.Command (command_of code)) read.Refused (read_causes code)) ∙ ap meant_if (read_given k ok)
+    sym (judged_map meant_if (Ok (command_of code)) Err (read_causes code)) ∙ ap meant_if (read_given k ok)
 
 pub codes_carry : (ks : List RadioCommand) → AllOk ks → flat_map meant_by (map four_bytes ks) ≡ flat_map messages_of ks
 unfolding flat_map

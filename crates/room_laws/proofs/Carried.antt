@@ -4,6 +4,7 @@
 --     heard_all                 what events leave of a room is what their messages leave
 --     carried                   what a route leaves and counts, by its messages
 --     demand_2, no_more         the theorems of specs/Demand2.antt
+use Rattle.std.specs.Prelude.{Ok, Err, Option, Some, None}
 use mathlib.Core.Path.{◌≡◌, refl, sym, ap, ap₂, ◌∙◌}
 use mathlib.Core.Bool.{Bool, true, false, true≢false}
 use mathlib.Core.List.{List, [], ◌∷◌, ◌++◌, flat_map}
@@ -20,8 +21,6 @@ use Rattle.message.specs.declared.Function.{Function}
 use Rattle.message.specs.declared.Message.{Message}
 use Rattle.message.specs.declared.Message.TheVariants.{Address, Function as Command}
 use Rattle.receiver.specs.declared.Event.{Event}
-use Rattle.receiver.specs.declared.Given.{Given}
-use Rattle.receiver.specs.declared.Given.TheVariants.{No, Yes}
 use Rattle.receiver.specs.Hearing.{given_by}
 use Rattle.receiver_laws.specs.Inversion.{as_list, told}
 use Rattle.wire.specs.Packed.{packed}
@@ -35,7 +34,6 @@ use Rattle.room.specs.Rooms.{Room, no_changes, room_ok, changes, room_after, app
 use Rattle.room.specs.Routes.{room_after_all, room_causes, radio_after, radio_answer}
 use Rattle.room.specs.Mains.{room_given, answer_given, answer_bytes, room_heard, answers_heard, Lending, heard, lent_causes, mains_after}
 use Rattle.room.specs.declared.Changes.{Changes}
-use Rattle.room.specs.declared.RoomAnswer.TheVariants.{Done, Refused}
 use Rattle.room.proofs.ApplyLaws.{Outcome, stays, did, moved, outcome, Valid, valid_parts, room_fine, fine_room, valid_stays, unchanged, counts_are}
 use Rattle.room.proofs.Levels.{address_counts}
 use Rattle.room_laws.specs.Demand2.{Route, radio, mains, meant_by, carries, radio_leaves, leaves, added, radio_counts, number_in}
@@ -143,14 +141,14 @@ code_carried code room ok =
     let count : count_all (meant_by code) room ≡ judged cs (count_all (messages_of k) room) (λ why. no_changes) =
     judged_map (λ (ms : List Message). count_all ms room) (messages_of k) (λ why. []) cs in
     let told : changes_of (radio_answer code room) ≡ judged cs (changes room (room_after_all (messages_of k) room)) (λ why. no_changes) =
-    ap changes_of (past_room room ok cs _ _) ∙ judged_map changes_of (Done (changes room (room_after_all (messages_of k) room))) Refused cs in
+    ap changes_of (past_room room ok cs _ _) ∙ judged_map changes_of (Ok (changes room (room_after_all (messages_of k) room))) Err cs in
     (past_room room ok cs _ _ ∙ sym left, told ∙ ap (λ (n : Changes). judged cs n (λ why. no_changes)) (count_command k room) ∙ sym count)
 
 code_refused : (code : List ℕ) (room : Room) → room_ok room ≡ false → (radio_after code room ≡ room) × (changes_of (radio_answer code room) ≡ no_changes)
 unfolding radio_after radio_answer
 code_refused code room broken = (
   broken_room room broken (read_causes code) _ room,
-  judged_map changes_of _ Refused (room_causes room ++ read_causes code) ∙ broken_room room broken (read_causes code) _ no_changes,
+  judged_map changes_of _ Err (room_causes room ++ read_causes code) ∙ broken_room room broken (read_causes code) _ no_changes,
 )
 
 -- ---- a list of codes
@@ -177,9 +175,9 @@ unfolding room_heard told room_after_all
 heard_all [] room = refl
 heard_all (e ∷ es) room = go (given_by e) (heard_all es)
   where
-    go : (g : Given) → ((q : Room) → room_heard es q ≡ room_after_all (told es) q) → room_heard es (room_given g room) ≡ room_after_all (as_list g ++ told es) room
-    go No later = later room
-    go (Yes m) later = later (room_after m room)
+    go : (g : Option Message) → ((q : Room) → room_heard es q ≡ room_after_all (told es) q) → room_heard es (room_given g room) ≡ room_after_all (as_list g ++ told es) room
+    go None later = later room
+    go (Some m) later = later (room_after m room)
 
 -- the counts in an answer's eight bytes
 small_number : (why : Refusal) → refusal_number why ≤ 22
@@ -241,16 +239,16 @@ counted_back n m k few shut small =
     let second : m % 2 ^ 16 ≡ m = omega arith in
     rw (low, number_back (n * 2 ^ 8 + m * 2 ^ 24 + k) (omega arith), levels, openings) (counts_same first second)
 
-answer_counts : (m : Message) (room : Room) → changes_in (answer_bytes (answer_given (Yes m) room)) ≡ changes_of (apply_answer m room)
+answer_counts : (m : Message) (room : Room) → changes_in (answer_bytes (answer_given (Some m) room)) ≡ changes_of (apply_answer m room)
 answer_counts m room = go (outcome m room)
   where
     -- counts between two rooms
-    counted : (before after : Room) → changes_in (answer_bytes (packed (tallied (Done (changes before after))))) ≡ changes before after
+    counted : (before after : Room) → changes_in (answer_bytes (packed (tallied (Ok (changes before after))))) ≡ changes before after
     counted before after =
         let most = count_at_most_256 before after in
         counted_back (changes before after).levels (changes before after).openings 0 most.0 most.1 (omega arith)
 
-    go : Outcome m room → changes_in (answer_bytes (answer_given (Yes m) room)) ≡ changes_of (apply_answer m room)
+    go : Outcome m room → changes_in (answer_bytes (answer_given (Some m) room)) ≡ changes_of (apply_answer m room)
     go (stays why e same) = rw e (counted_back 0 0 (refusal_number why) (omega arith) (omega arith) (small_number why))
     go (did a r) = rw r.answer (counted room (room_after m room))
     go (moved a r) = rw r.answer (counted room (room_after m room))
@@ -261,11 +259,11 @@ unfolding counts_in answers_heard told count_all
 counts_heard [] room rest = refl
 counts_heard (e ∷ es) room rest = go (given_by e) (λ q. counts_heard es q rest)
   where
-    go : (g : Given) → ((q : Room) → counts_in (length es) (answers_heard es q ++ rest) ≡ count_all (told es) q)
+    go : (g : Option Message) → ((q : Room) → counts_in (length es) (answers_heard es q ++ rest) ≡ count_all (told es) q)
         → added (changes_in (answer_bytes (answer_given g room))) (counts_in (length es) (answers_heard es (room_given g room) ++ rest))
         ≡ count_all (as_list g ++ told es) room
-    go No later = none_added _ ∙ later room
-    go (Yes m) later = ap₂ added (answer_counts m room) (later (room_after m room))
+    go None later = none_added _ ∙ later room
+    go (Some m) later = ap₂ added (answer_counts m room) (later (room_after m room))
 
 -- ---- a call on the mains
 

@@ -6,6 +6,7 @@
 --     after_is                             a record of the house after an extended message that asks for an act
 --     groups_alone                         of a message that asks for groups alone, all else stays
 --     who_is_reached, what_is_joined       WhoIsReached, WhatIsJoined
+use Rattle.std.specs.Prelude.{Result, Ok, Err}
 use mathlib.Core.Path.{◌≡◌, refl, sym, ap, subst, ◌∙◌}
 use mathlib.Core.Bool.{Bool, true, false, ◌&&◌, ◌||◌, false≢true, and-eq-true_iff, and-false, or-true}
 use Prim.Native.Nat.{ℕ, ◌+◌, ◌*◌, ◌/◌, ◌%◌, ◌≤◌, ◌<◌}
@@ -23,7 +24,7 @@ use Rattle.plan.specs.declared.Act.{Act}
 use Rattle.plan.specs.declared.Act.TheVariants.{Join, JoinAt, Leave, LeaveHouse, Group}
 use Rattle.plan.specs.declared.GroupAct.{GroupAct}
 use Rattle.plan.specs.declared.Plan.{Plan}
-use Rattle.plan.specs.declared.Plan.TheVariants.{Run, Move, Refused}
+use Rattle.plan.specs.declared.Plan.TheVariants.{Run, Move}
 use Rattle.plan.proofs.PlanLaws.{which_reference}
 use Rattle.record.specs.Layout.{UNITS, HOUSES, record_at, house_at, present, membership, member, reference, with_level, with_groups}
 use Rattle.record.specs.ModuleTable.{all_zeros, record_ok, reached, asked, joined_as, acted, step_record}
@@ -38,6 +39,7 @@ use Rattle.room_laws.proofs.LitLaws.{kept}
 use Rattle.room_laws.proofs.ReachLaws.{step_unreached}
 use Rattle.room_laws.proofs.Press.{done}
 use Rattle.room_laws.proofs.Theorems.{record_by_record}
+use Rattle.ground.specs.declared.Refusal.{Refusal}
 
 -- a place with no module is in no group
 member_present : (g : ℕ) (r : Record) → record_ok r ≡ true → g < 4 → member g r ≡ true → present r ≡ true
@@ -63,16 +65,16 @@ module _ (ask : GroupAct) (g s : ℕ) (own : House) (n : ℕ) (r : Record) where
   unreached_stays out = step_unreached (Group g s ask) own n r (rw out (and-false (present r)))
 
 -- one of two things asked
-either : (b : Bool) (g s : ℕ) (x y : GroupAct) → pick b (Run (Group g s x)) (Run (Group g s y)) ≡ Run (Group g s (pick b x y))
+either : (b : Bool) (g s : ℕ) (x y : GroupAct) → pick {A = Result Plan Refusal} b (Ok (Run (Group g s x))) (Ok (Run (Group g s y))) ≡ Ok (Run (Group g s (pick b x y)))
 either true g s x y = refl
 either false g s x y = refl
 
 module _ (h u d : ℕ) where
-  execute_plan_lem : plan_of (Extended h u d 0x36) ≡ Run (Group (group_in d) (reference_in d) (asks 0x36 d))
+  execute_plan_lem : plan_of (Extended h u d 0x36) ≡ Ok (Run (Group (group_in d) (reference_in d) (asks 0x36 d)))
   unfolding extended_plan
   execute_plan_lem = either (bit 4 d) _ _ _ _
 
-  step_plan_lem : plan_of (Extended h u d 0x3C) ≡ Run (Group (group_in d) (reference_in d) (asks 0x3C d))
+  step_plan_lem : plan_of (Extended h u d 0x3C) ≡ Ok (Run (Group (group_in d) (reference_in d) (asks 0x3C d)))
   unfolding extended_plan
   step_plan_lem = either (bit 4 d) _ _ _ _
 
@@ -101,7 +103,7 @@ module _ (d : ℕ) (r : Record) where
 
 -- a record of the house after an extended message that asks for an act
 module _ (h u d : ℕ) (room : Room) (ok : room_ok room ≡ true) (house : h < HOUSES) (unit : u ≤ 15) (byte : d ≤ 255) where
-  after_is : (c n : ℕ) (a : Act) → leb c 255 ≡ true → plan_of (Extended h u d c) ≡ Run a → n < UNITS
+  after_is : (c n : ℕ) (a : Act) → leb c 255 ≡ true → plan_of (Extended h u d c) ≡ Ok (Run a) → n < UNITS
       → unit_after room h u d c n ≡ step_record a (house_at room.modules h) n (unit_before room h n)
   after_is c n a low plan below =
       let valid : message_ok (Extended h u d c) ≡ true = rw (le-leb h 15 (omega arith), le-leb u 15 unit, le-leb d 255 byte, low) in
@@ -120,7 +122,7 @@ who_is_reached h u d c n room ok house unit byte is below = go (ℕ_discrete c 0
     here = member_present (group_in d) r (kept h room house ok n below) (omega arith)
 
     -- by what the command asks for
-    by : (k : ℕ) → leb k 255 ≡ true → plan_of (Extended h u d k) ≡ Run (Group (group_in d) (reference_in d) (asks k d)) → Goal k
+    by : (k : ℕ) → leb k 255 ≡ true → plan_of (Extended h u d k) ≡ Ok (Run (Group (group_in d) (reference_in d) (asks k d))) → Goal k
     by k low plan =
         let own = house_at room.modules h in
         let left = after_is h u d room ok house unit byte k n _ low plan below in
@@ -139,29 +141,29 @@ who_is_reached h u d c n room ok house unit byte is below = go (ℕ_discrete c 0
 
 -- what 30, 32 and the two forms of 35 ask for
 module _ (h u d : ℕ) where
-  join_plan : plan_of (Extended h u d 0x30) ≡ Run (Join u (group_in d) (reference_in d))
+  join_plan : plan_of (Extended h u d 0x30) ≡ Ok (Run (Join u (group_in d) (reference_in d)))
   unfolding extended_plan
   join_plan = refl
 
-  join_at_plan : plan_of (Extended h u d 0x32) ≡ Run (JoinAt u (group_in d) (level_in d))
+  join_at_plan : plan_of (Extended h u d 0x32) ≡ Ok (Run (JoinAt u (group_in d) (level_in d)))
   unfolding extended_plan
   join_at_plan = refl
 
-  leave_plan_lem : d / 16 ≡ 0 → plan_of (Extended h u d 0x35) ≡ Run (Leave u (groups_in d))
+  leave_plan_lem : d / 16 ≡ 0 → plan_of (Extended h u d 0x35) ≡ Ok (Run (Leave u (groups_in d)))
   unfolding extended_plan
   leave_plan_lem e = rw e
 
-  leave_house_plan : d / 16 ≡ 15 → plan_of (Extended h u d 0x35) ≡ Run (LeaveHouse (groups_in d))
+  leave_house_plan : d / 16 ≡ 15 → plan_of (Extended h u d 0x35) ≡ Ok (Run (LeaveHouse (groups_in d)))
   unfolding extended_plan
   leave_house_plan e = rw e
 
 -- ---- groups and nothing else
 
 -- whether what is asked keeps the groups
-abbrev plan_keeps : Plan → Bool
-plan_keeps (Run a) = keeps_groups a
-plan_keeps (Move a) = false
-plan_keeps (Refused why) = false
+abbrev plan_keeps : Result Plan Refusal → Bool
+plan_keeps (Ok (Run a)) = keeps_groups a
+plan_keeps (Ok (Move a)) = false
+plan_keeps (Err why) = false
 
 step_groups : (a : Act) (own : House) (n : ℕ) (r : Record) → keeps_groups a ≡ false → step_record a own n r ≡ with_groups (step_record a own n r).groups r
 unfolding step_record
@@ -232,7 +234,7 @@ what_is_joined h u d g room ok house unit byte below =
     r : Record
     r = unit_before room h u
 
-    after : (c n : ℕ) (a : Act) → leb c 255 ≡ true → plan_of (Extended h u d c) ≡ Run a → n < UNITS
+    after : (c n : ℕ) (a : Act) → leb c 255 ≡ true → plan_of (Extended h u d c) ≡ Ok (Run a) → n < UNITS
         → unit_after room h u d c n ≡ step_record a own n (unit_before room h n)
     after = after_is h u d room ok house unit byte
 

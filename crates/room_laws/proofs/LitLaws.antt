@@ -2,6 +2,7 @@
 --
 --     lit_stays_true, own_lit_only     LitStaysTrue, OwnLitOnly
 --     all_off_all_on                   AllOffAllOn
+use Rattle.std.specs.Prelude.{Ok}
 use mathlib.Core.Path.{◌≡◌, refl, ap, ◌∙◌}
 use mathlib.Core.Bool.{Bool, true, false, ◌&&◌}
 use Prim.Native.Nat.{ℕ, ◌+◌, ◌*◌, ◌/◌, ◌<◌}
@@ -10,7 +11,6 @@ use borrow.Author.Tests.{eqb-true, ne_eqb, le-leb}
 use lib.Dec.{eqb, leb}
 use Rattle.ground.specs.Choice.{pick}
 use Rattle.ground.specs.Records.{sum_below}
-use Rattle.ground.specs.declared.CountAnswer.TheVariants.{Done}
 use Rattle.ground.proofs.Choices.{pick_both}
 use Rattle.ground.proofs.Records.{below_at, sum-ext}
 use Rattle.message.specs.declared.Function.TheVariants.{AllUnitsOff}
@@ -89,10 +89,10 @@ module _ (h : ℕ) (room : Room) (house : h < HOUSES) (ok : room_ok room ≡ tru
 
   -- what is answered after a message, by what each record adds
   answered : (m : Message) (f : ℕ → ℕ) → ((n : ℕ) → n < UNITS → lit_of (record_at (room_after m room).modules (h * UNITS + n)) ≡ f n)
-      → lit_answer h (room_after m room).modules ≡ Done (sum_below UNITS f)
+      → lit_answer h (room_after m room).modules ≡ Ok (sum_below UNITS f)
   answered m f each =
       lit_is_the_count h (room_after m room).modules house (valid_parts (room_after m room) (valid_stays m room ok)).modules_valid_lem
-      ∙ ap Done (sum-ext (λ n. lit_of (record_at (room_after m room).modules (h * UNITS + n))) f UNITS each)
+      ∙ ap Ok (sum-ext (λ n. lit_of (record_at (room_after m room).modules (h * UNITS + n))) f UNITS each)
 
 pub all_off_all_on : AllOffAllOn
 unfolding extended_plan sum_below

@@ -2,6 +2,7 @@
 -- that is refused for its room or its receiver is refused in parts too.
 --
 --     two_calls, one_by_one      the theorems of specs/Slices.antt
+use Rattle.std.specs.Prelude.{Err}
 use mathlib.Core.Path.{◌≡◌, refl, sym, ap, ◌∙◌}
 use mathlib.Core.Bool.{true}
 use mathlib.Core.List.{List, [], ◌∷◌, ◌++◌, append_assoc, append-nil, flat_map}
@@ -24,7 +25,6 @@ use Rattle.receiver.proofs.ReadBack.{stays_receiver, two_parts}
 use Rattle.room.specs.Rooms.{Room, room_ok, room_report}
 use Rattle.room.specs.Routes.{room_causes}
 use Rattle.room.specs.Mains.{room_heard, answers_heard, lent_to, mains_causes, mains_answer, mains_after, lent_after}
-use Rattle.room.specs.declared.RoomAnswer.TheVariants.{Refused}
 use Rattle.room.proofs.ApplyLaws.{valid_parts}
 use Rattle.room.proofs.MainsLaws.{room-append, answers_append}
 use Rattle.room_laws.specs.Slices.{Lent, called, in_parts, Fits, TwoCalls, singly, OneByOne}
@@ -110,7 +110,7 @@ called_bad hs l bad =
     let cs = front l.room l.state in
     let lent = lent_to l.state hs l.events l.answers in
     let number : (room_report (mains_answer lent l.room)).number ≡ number_given cs =
-    judged_map (λ a. (room_report a).number) _ Refused (mains_causes lent l.room) ∙ by_front 0 0 refusal_number hs l bad in
+    judged_map (λ a. (room_report a).number) _ Err (mains_causes lent l.room) ∙ by_front 0 0 refusal_number hs l bad in
     let room : mains_after lent l.room ≡ l.room = by_front _ l.room (λ why. l.room) hs l bad ∙ either_way l.room cs in
     let left : lent_after lent l.room ≡ lent = by_front _ lent (λ why. lent) hs l bad ∙ either_way lent cs in
     rw (number, room, left)

@@ -1,4 +1,5 @@
 -- The statements of specs/Statements proved: each goes by the two outcomes of applying a message.
+use Rattle.std.specs.Prelude.{Result, Ok, Err}
 use mathlib.Core.Path.{◌≡◌, refl, sym, ap, subst, ◌∙◌}
 use mathlib.Core.Bool.{Bool, true, false, not, ◌&&◌, ◌||◌, true≢false}
 use Prim.Native.Nat.{ℕ, ◌+◌, ◌*◌, ◌/◌, ◌%◌, ◌≤◌, ◌<◌}
@@ -19,7 +20,7 @@ use Rattle.plan.specs.declared.Act.TheVariants.{Nothing, Join, Level, JoinAt, Un
 use Rattle.plan.specs.declared.GroupAct.{GroupAct}
 use Rattle.plan.specs.declared.Motion.{Motion}
 use Rattle.plan.specs.declared.Plan.{Plan}
-use Rattle.plan.specs.declared.Plan.TheVariants.{Run, Move, Refused}
+use Rattle.plan.specs.declared.Plan.TheVariants.{Run, Move}
 use Rattle.plan.proofs.PlanLaws.{only_type_zero}
 use Rattle.record.specs.declared.Record.{Record}
 use Rattle.record.specs.declared.House.{House}
@@ -35,6 +36,7 @@ use Rattle.room.proofs.ApplyLaws.{house_below, modules_size, shutters_size, Ran,
 use Rattle.room_laws.specs.Statements.{plan_concerns, for_every_house, OnlyTypeZeroMoves, OwnHouse, OwnHouseOnly, OthersStay}
 use Rattle.room_laws.specs.Statements.{ByPlan, RecordByRecord, RefusedStays, CountAtMost16, CountAtMost256, ExtendedKeeps}
 use Rattle.room_laws.proofs.ReachLaws.{step_unreached}
+use Rattle.ground.specs.declared.Refusal.{Refusal}
 
 -- ---- each message its table
 
@@ -58,10 +60,10 @@ neither true b e = absurd (true≢false e)
 neither false b e = (refl, e)
 
 -- the motion of a plan, if it has one, reaches no place of another house
-abbrev Home : Plan → Type 0
-Home (Run a) = Unit {0}
-Home (Move a) = (h i : ℕ) → of_house h i ≡ false → reaches a h i ≡ false
-Home (Refused why) = Unit {0}
+abbrev Home : Result Plan Refusal → Type 0
+Home (Ok (Run a)) = Unit {0}
+Home (Ok (Move a)) = (h i : ℕ) → of_house h i ≡ false → reaches a h i ≡ false
+Home (Err why) = Unit {0}
 
 motion_home : (u d c : ℕ) → (eqb c 0x05 || eqb c 0x08 || eqb c 0x0A || eqb c 0x0C) ≡ false → Home (motion_plan u d c)
 unfolding motion_plan
@@ -82,13 +84,13 @@ motion_home u d c out =
     unit : (u h i : ℕ) → of_house h i ≡ false → of_unit h u i ≡ false
     unit u h i other = rw other
 
-home : (m : Message) (a : Motion) → for_every_house m ≡ false → plan_of m ≡ Move a → Home (Move a)
+home : (m : Message) (a : Motion) → for_every_house m ≡ false → plan_of m ≡ Ok (Move a) → Home (Ok (Move a))
 home m a out e = go m out e (only_type_zero.others m a e)
   where
-    go : (m : Message) → for_every_house m ≡ false → plan_of m ≡ Move a → type_zero m ≡ true → Home (Move a)
+    go : (m : Message) → for_every_house m ≡ false → plan_of m ≡ Ok (Move a) → type_zero m ≡ true → Home (Ok (Move a))
     go (Calls h u) out e type = absurd (true≢false (sym type))
     go (Command h f) out e type = absurd (true≢false (sym type))
-    go (Extended h u d c) out e type = let plan : motion_plan u d c ≡ Move a = rw type at e in subst Home plan (motion_home u d c out)
+    go (Extended h u d c) out e type = let plan : motion_plan u d c ≡ Ok (Move a) = rw type at e in subst Home plan (motion_home u d c out)
 
 pub own_house_only : OwnHouseOnly
 own_house_only m room = go (outcome m room)
@@ -130,7 +132,7 @@ others_stay m room i k below small out = go (outcome m room)
     own = house_at room.modules (house_of m)
 
     -- the record stays
-    same : (a : Act) → Ran m room (Run a) → (b : Bool) → (b && plan_concerns (plan_of m) own (i % UNITS) (record_at room.modules i)) ≡ false
+    same : (a : Act) → Ran m room (Ok (Run a)) → (b : Bool) → (b && plan_concerns (plan_of m) own (i % UNITS) (record_at room.modules i)) ≡ false
         → pick b (step_record a own (i % UNITS) (record_at room.modules i)) (record_at room.modules i) ≡ record_at room.modules i
     same a r true e =
         step_unreached a own (i % UNITS) (record_at room.modules i)
@@ -201,13 +203,13 @@ count_at_most_16 m room = go (outcome m room)
 -- ---- extended commands
 
 -- the act of a plan leaves each mark of being addressed, and the house's "command heard" byte
-abbrev Keeps : Plan → Type 0
-Keeps (Run a) = ((own : House) (n : ℕ) (r : Record) → (step_record a own n r).addressed ≡ r.addressed) × ((x : ℕ) → heard_after a x ≡ x)
-Keeps (Move a) = Unit {0}
-Keeps (Refused why) = Unit {0}
+abbrev Keeps : Result Plan Refusal → Type 0
+Keeps (Ok (Run a)) = ((own : House) (n : ℕ) (r : Record) → (step_record a own n r).addressed ≡ r.addressed) × ((x : ℕ) → heard_after a x ≡ x)
+Keeps (Ok (Move a)) = Unit {0}
+Keeps (Err why) = Unit {0}
 
 keeps_act : (a : Act) → ((own : House) (n : ℕ) (r : Record) → (acted a own n r).addressed ≡ r.addressed) → ((x : ℕ) → heard_after a x ≡ x)
-    → Keeps (Run a)
+    → Keeps (Ok (Run a))
 unfolding step_record
 keeps_act a marks house = (λ own n r. pick_both (λ s. s.addressed ≡ r.addressed) (present r) (acted a own n r) r (marks own n r) refl, house)
 
@@ -216,10 +218,10 @@ keeps_one : (b : Bool) (s r : Record) → s.addressed ≡ r.addressed → (pick 
 keeps_one b s r h = pick_both (λ x. x.addressed ≡ r.addressed) b s r h refl
 
 -- a group command, whatever is asked of the members
-keeps_group : (g s : ℕ) (ask : GroupAct) → Keeps (Run (Group g s ask))
+keeps_group : (g s : ℕ) (ask : GroupAct) → Keeps (Ok (Run (Group g s ask)))
 keeps_group g s ask = keeps_act (Group g s ask) (λ own n r. refl) (λ own. refl)
 
-keeps_nothing : Keeps (Run Nothing)
+keeps_nothing : Keeps (Ok (Run Nothing))
 keeps_nothing = keeps_act Nothing (λ own n r. refl) (λ own. refl)
 
 keeps_extended : (u d c : ℕ) → Keeps (extended_plan u d c)
@@ -275,7 +277,7 @@ extended_keeps h u d c room = go (outcome m room)
     go (moved a r) = (λ i below. rw r.left, λ g there. rw r.left)
     go (did a r) =
         let t = room.modules in
-        let keeps : Keeps (Run a) = subst Keeps r.plan (keeps_plan u d c) in (
+        let keeps : Keeps (Ok (Run a)) = subst Keeps r.plan (keeps_plan u d c) in (
           λ i below.
               let mark = (record_at t i).addressed in
               let kept = keeps.0 (house_at t h) (i % UNITS) (record_at t i) in
@@ -284,7 +286,7 @@ extended_keeps h u d c room = go (outcome m room)
           λ g there. rw r.left (heard g there (ℕ_discrete g h) a r keeps.1),
         )
       where
-        heard : (g : ℕ) → g < HOUSES → Dec (g ≡ h) → (a : Act) → Ran m room (Run a) → ((x : ℕ) → heard_after a x ≡ x)
+        heard : (g : ℕ) → g < HOUSES → Dec (g ≡ h) → (a : Act) → Ran m room (Ok (Run a)) → ((x : ℕ) → heard_after a x ≡ x)
             → (house_at (run_act a h room.modules) g).heard ≡ (house_at room.modules g).heard
         heard g there (yes own) a r keeps =
             let t = room.modules in

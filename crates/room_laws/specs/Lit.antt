@@ -1,8 +1,7 @@
 -- The byte that says how many modules of a house are lit (02, A3), whatever messages come.
-use Rattle.std.specs.Prelude.{ℕ, ◌+◌, ◌*◌, ◌≤◌, ◌<◌, ◌≡◌, true, List}
+use Rattle.std.specs.Prelude.{ℕ, ◌+◌, ◌*◌, ◌≤◌, ◌<◌, ◌≡◌, true, List, Ok}
 use Rattle.ground.specs.Choice.{pick}
 use Rattle.ground.specs.Records.{sum_below}
-use Rattle.ground.specs.declared.CountAnswer.TheVariants.{Done}
 use Rattle.message.specs.declared.Function.TheVariants.{AllUnitsOff}
 use Rattle.message.specs.declared.Message.{Message}
 use Rattle.message.specs.declared.Message.TheVariants.{Function as Command, Extended}
@@ -17,7 +16,7 @@ use Rattle.room.specs.Routes.{room_after_all}
 abbrev pub LitStaysTrue : Type 0
 LitStaysTrue =
     (ms : List Message) (room : Room) → room_ok room ≡ true → (h : ℕ) → h < HOUSES
-    → let after = (room_after_all ms room).modules in lit_answer h after ≡ Done (lit_in after h)
+    → let after = (room_after_all ms room).modules in lit_answer h after ≡ Ok (lit_in after h)
 
 -- a message changes the byte of its own house only, whatever the room, and so what is answered for every other house stays
 pub record LitElsewhere (m : Message) (room : Room) (g : ℕ) : Type 0 where
@@ -33,8 +32,8 @@ present_in t h = sum_below UNITS (λ n. pick (present (record_at t (h * UNITS + 
 
 -- what a fitter sees: all units off leaves no module of the house lit, and the extended command 33 leaves every one lit that is there
 pub record LitAfter (h : ℕ) (room : Room) : Type 0 where
-  pub all_off : lit_answer h (room_after (Command h AllUnitsOff) room).modules ≡ Done 0
-  pub all_on : (u d : ℕ) → u ≤ 15 → d ≤ 255 → lit_answer h (room_after (Extended h u d 0x33) room).modules ≡ Done (present_in room.modules h)
+  pub all_off : lit_answer h (room_after (Command h AllUnitsOff) room).modules ≡ Ok 0
+  pub all_on : (u d : ℕ) → u ≤ 15 → d ≤ 255 → lit_answer h (room_after (Extended h u d 0x33) room).modules ≡ Ok (present_in room.modules h)
 
 abbrev pub AllOffAllOn : Type 0
 AllOffAllOn = (h : ℕ) (room : Room) → h < HOUSES → room_ok room ≡ true → LitAfter h room

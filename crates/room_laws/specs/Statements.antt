@@ -1,6 +1,6 @@
 -- What holds of every message m applied to every room (01, 'The module table'; 02, A1). By the contract of `apply`, `room_after m room` is the room
 -- that is left, and `apply_answer m room` the answer. That a valid room stays valid is in room's Statements.
-use Rattle.std.specs.Prelude.{ℕ, ◌+◌, ◌*◌, ◌/◌, ◌%◌, ◌≤◌, ◌<◌, ◌≡◌, Bool, true, false, ◌&&◌, ◌||◌, List, eqb, length, get_or}
+use Rattle.std.specs.Prelude.{ℕ, ◌+◌, ◌*◌, ◌/◌, ◌%◌, ◌≤◌, ◌<◌, ◌≡◌, Bool, true, false, ◌&&◌, ◌||◌, List, eqb, length, get_or, Result, Ok, Err}
 use Rattle.message.specs.declared.Function.{Function}
 use Rattle.message.specs.declared.Function.TheVariants.{AllUnitsOff, AllLightsOn, On, Off, Dim, Bright, AllLightsOff, HailRequest, HailAcknowledge}
 use Rattle.message.specs.declared.Function.TheVariants.{StatusOn, StatusOff, StatusRequest}
@@ -12,7 +12,7 @@ use Rattle.plan.specs.declared.Act.TheVariants.{Nothing, Address, Obey, Join, Le
 use Rattle.plan.specs.declared.GroupAct.{GroupAct}
 use Rattle.plan.specs.declared.GroupAct.TheVariants.{Execute, PutOff, StepDim, StepBright}
 use Rattle.plan.specs.declared.Plan.{Plan}
-use Rattle.plan.specs.declared.Plan.TheVariants.{Run, Move, Refused}
+use Rattle.plan.specs.declared.Plan.TheVariants.{Run, Move}
 use Rattle.record.specs.declared.Record.{Record}
 use Rattle.record.specs.declared.House.{House}
 use Rattle.record.specs.Layout.{RECORD_BYTES, UNITS, HOUSES, RECORDS, HEARD_AT, LIT_AT, record_at, house_at, present, lamp}
@@ -23,6 +23,7 @@ use Rattle.shutter_table.specs.ShutterTable.{SHUTTERS, shutter_at, shutter_after
 use Rattle.shutter_table.specs.Statements.{own_shutter_byte}
 use Rattle.room.specs.Rooms.{Room, room_ok, changes, no_changes, room_after, apply_answer, room_report, changes_of}
 use Rattle.room.specs.Routes.{room_after_all}
+use Rattle.ground.specs.declared.Refusal.{Refusal}
 
 -- ---- what a message is about
 
@@ -67,10 +68,10 @@ act_reaches (LeaveHouse gs) own n r = true
 act_reaches (Group g s ask) own n r = reached g s r && heeds ask r
 
 -- whether a plan concerns the record of unit n: a module is there, and the act reaches it
-abbrev pub plan_concerns : Plan → House → ℕ → Record → Bool
-plan_concerns (Run a) own n r = present r && act_reaches a own n r
-plan_concerns (Move a) own n r = false
-plan_concerns (Refused why) own n r = false
+abbrev pub plan_concerns : Result Plan Refusal → House → ℕ → Record → Bool
+plan_concerns (Ok (Run a)) own n r = present r && act_reaches a own n r
+plan_concerns (Ok (Move a)) own n r = false
+plan_concerns (Err why) own n r = false
 
 -- whether a message concerns record i of a room
 abbrev pub concerns : Message → Room → ℕ → Bool
@@ -79,21 +80,21 @@ concerns m room i =
     && plan_concerns (plan_of m) (house_at room.modules (house_of m)) (i % UNITS) (record_at room.modules i)
 
 -- what a plan makes of the record of unit n, and of the house's own bytes, where so many of its modules are above level 0 after it
-abbrev pub planned : Plan → House → ℕ → Record → Record
-planned (Run a) own n r = step_record a own n r
-planned (Move a) own n r = r
-planned (Refused why) own n r = r
+abbrev pub planned : Result Plan Refusal → House → ℕ → Record → Record
+planned (Ok (Run a)) own n r = step_record a own n r
+planned (Ok (Move a)) own n r = r
+planned (Err why) own n r = r
 
-abbrev pub planned_house : Plan → ℕ → House → House
-planned_house (Run a) above own = house_after a above own
-planned_house (Move a) above own = own
-planned_house (Refused why) above own = own
+abbrev pub planned_house : Result Plan Refusal → ℕ → House → House
+planned_house (Ok (Run a)) above own = house_after a above own
+planned_house (Ok (Move a)) above own = own
+planned_house (Err why) above own = own
 
 -- what a plan for house h makes of shutter i
-abbrev pub planned_shutter : Plan → ℕ → ℕ → Shutter → Shutter
-planned_shutter (Run a) h i s = s
-planned_shutter (Move a) h i s = shutter_after a h i s
-planned_shutter (Refused why) h i s = s
+abbrev pub planned_shutter : Result Plan Refusal → ℕ → ℕ → Shutter → Shutter
+planned_shutter (Ok (Run a)) h i s = s
+planned_shutter (Ok (Move a)) h i s = shutter_after a h i s
+planned_shutter (Err why) h i s = s
 
 -- "Commands 05, 08, 0A and 0C reach every house."
 abbrev pub for_every_house : Message → Bool

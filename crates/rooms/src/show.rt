@@ -1,17 +1,17 @@
 // Lines for a reader: a message with what applying it answered, and what it changed in the two tables.
 ghost use Rattle.std.specs.Prelude.{◌+◌, ◌≤◌, ◌<◌, length};
-ghost use Rattle.record.specs.Layout.{TABLE_BYTES};
 
 use crate::line::ANSWERS;
-use ground::{CountAnswer, Refusal, refusal_number};
+use crate::tables::Room;
+use ground::{Refusal, refusal_number};
 use lit::lit;
 use message::Message;
 use record::{HEARD_AT, HOUSES, LIT_AT, RECORD_BYTES, RECORDS, TABLE_BYTES, UNITS};
-use room::{Changes, RoomAnswer};
+use room::Changes;
 use shutter_table::{SHUTTER_BYTES, SHUTTER_TABLE_BYTES, SHUTTERS};
 use text::{Text, front, hex, letter, place};
 
-// The descriptor of standard output.
+// The descriptor of standard output. The runtime's `print!` is no plainer: each function here and each step of a scene would take the runtime.
 const STDOUT: i32 = 1;
 
 pub(crate) fn print(s: &[u8]) {
@@ -19,8 +19,7 @@ pub(crate) fn print(s: &[u8]) {
 }
 
 fn print_text(t: Text) {
-    let bytes = t.bytes;
-    print(front(&bytes, t.length));
+    print(front(&t.bytes, t.length));
 }
 
 fn number(n: u64) {
@@ -38,11 +37,11 @@ fn shutters_moved(n: usize) {
 
 // The modules and the shutters that count, each where there are any; where there is neither, 0 changed.
 fn counts(c: Changes) {
-    if (c.levels != 0) | (c.openings == 0) {
+    if c.levels != 0 || c.openings == 0 {
         number(c.levels as u64);
         print(b" changed");
     }
-    if (c.levels != 0) & (c.openings != 0) {
+    if c.levels != 0 && c.openings != 0 {
         print(b", ");
     }
     if c.openings != 0 {
@@ -56,10 +55,10 @@ fn refused(why: Refusal) {
     number(refusal_number(why) as u64);
 }
 
-fn answer(a: RoomAnswer) {
+fn answer(a: Result<Changes, Refusal>) {
     match a {
-        RoomAnswer::Done(c) => counts(c),
-        RoomAnswer::Refused(why) => {
+        Ok(c) => counts(c),
+        Err(why) => {
             refused(why);
             print(b"\n");
         }
@@ -67,51 +66,35 @@ fn answer(a: RoomAnswer) {
 }
 
 // What is answered to the question how many modules are lit.
-pub(crate) fn lit_answer(a: CountAnswer) {
+pub(crate) fn lit_answer(a: Result<usize, Refusal>) {
     match a {
-        CountAnswer::Done(n) => number(n as u64),
-        CountAnswer::Refused(why) => refused(why),
+        Ok(n) => number(n as u64),
+        Err(why) => refused(why),
     }
 }
 
-pub(crate) fn applied(m: Message, a: RoomAnswer) {
+pub(crate) fn applied(m: Message, a: Result<Changes, Refusal>) {
     print_text(text::message(m, b' '));
     print(b": ");
     answer(a);
 }
 
 // A radio code, and what came of it.
-pub(crate) fn coded(code: &[u8; 4], a: RoomAnswer) {
-    print(b"radio ");
-    print_text(hex(code[0]));
-    print(b" ");
-    print_text(hex(code[1]));
-    print(b" ");
-    print_text(hex(code[2]));
-    print(b" ");
-    print_text(hex(code[3]));
+pub(crate) fn coded(code: &[u8; 4], a: Result<Changes, Refusal>) {
+    print(b"radio");
+    for &b in code {
+        print(b" ");
+        print_text(hex(b));
+    }
     print(b": ");
     answer(a);
 }
 
 // Whether n bytes from a place on differ between two tables.
-fn bytes_differ(before: &[u8], after: &[u8], at: usize, n: usize) -> bool
+fn differ(before: &[u8], after: &[u8], at: usize, n: usize) -> bool
     requires { (at + n ≤ length before.now) × (at + n ≤ length after.now) }
 {
-    let mut other = false;
-    let mut k: usize = 0;
-    while k < n {
-        other = other | (before[at + k] != after[at + k]);
-        k += 1;
-    }
-    other
-}
-
-// Whether record i differs between two tables.
-fn differs(before: &[u8; TABLE_BYTES], after: &[u8; TABLE_BYTES], i: usize) -> bool
-    requires { i < 256 }
-{
-    bytes_differ(before, after, i * RECORD_BYTES, RECORD_BYTES)
+    before[at..at + n] != after[at..at + n]
 }
 
 fn kind(k: u8) {
@@ -128,14 +111,12 @@ pub(crate) fn field(name: &[u8], value: u8) {
     number(value as u64);
 }
 
-// Four bytes of a table from a place on, under a name.
-fn four(name: &[u8], t: &[u8; TABLE_BYTES], at: usize)
-    requires { at + 4 ≤ TABLE_BYTES }
-{
-    field(name, t[at]);
-    field(b" ", t[at + 1]);
-    field(b" ", t[at + 2]);
-    field(b" ", t[at + 3]);
+// Some bytes under a name.
+fn fields(name: &[u8], values: &[u8]) {
+    print(name);
+    for &value in values {
+        field(b" ", value);
+    }
 }
 
 // Record i of a table on a line.
@@ -149,18 +130,9 @@ fn record(t: &[u8; TABLE_BYTES], i: usize)
     field(b" level ", t[at + 1]);
     field(b" addressed ", t[at + 2]);
     field(b" mask ", t[at + 3]);
-    four(b" presets ", t, at + 4);
-    four(b" references ", t, at + 8);
+    fields(b" presets", &t[at + 4..at + 8]);
+    fields(b" references", &t[at + 8..at + 12]);
     print(b"\n");
-}
-
-// Record i, if it differs, as it is after.
-fn record_change(before: &[u8; TABLE_BYTES], after: &[u8; TABLE_BYTES], i: usize)
-    requires { i < 256 }
-{
-    if differs(before, after, i) {
-        record(after, i);
-    }
 }
 
 // The letter of house h, where a line begins.
@@ -168,8 +140,7 @@ fn house(h: usize)
     requires { h < 16 }
 {
     print(b"  ");
-    let house = [letter(h as u8)];
-    print(&house);
+    print(&[letter(h as u8)]);
 }
 
 // The "command heard" byte of house h, if it differs, as it is after.
@@ -186,33 +157,21 @@ fn house_change(before: &[u8; TABLE_BYTES], after: &[u8; TABLE_BYTES], h: usize)
 
 // The records that differ, as they are after.
 fn changed_records(before: &[u8; TABLE_BYTES], after: &[u8; TABLE_BYTES]) {
-    let mut i: usize = 0;
-    while i < RECORDS {
-        record_change(before, after, i);
-        i += 1;
+    for i in 0..RECORDS {
+        if differ(before, after, i * RECORD_BYTES, RECORD_BYTES) {
+            record(after, i);
+        }
     }
-}
-
-// Whether a record of house h differs between two tables.
-fn records_differ(before: &[u8; TABLE_BYTES], after: &[u8; TABLE_BYTES], h: usize) -> bool
-    requires { h < 16 }
-{
-    let mut other = false;
-    let mut n: usize = 0;
-    while n < UNITS {
-        other = other | differs(before, after, h * UNITS + n);
-        n += 1;
-    }
-    other
 }
 
 // How many modules of house h are lit, if the house has changed, as it is after.
 fn lit_change(before: &[u8; TABLE_BYTES], after: &[u8; TABLE_BYTES], h: usize)
     requires { h < 16 }
 {
-    if records_differ(before, after, h)
-        | (before[HEARD_AT + h] != after[HEARD_AT + h])
-        | (before[LIT_AT + h] != after[LIT_AT + h])
+    let at = h * UNITS * RECORD_BYTES;
+    if differ(before, after, at, UNITS * RECORD_BYTES)
+        || before[HEARD_AT + h] != after[HEARD_AT + h]
+        || before[LIT_AT + h] != after[LIT_AT + h]
     {
         house(h);
         print(b" lit ");
@@ -223,11 +182,9 @@ fn lit_change(before: &[u8; TABLE_BYTES], after: &[u8; TABLE_BYTES], h: usize)
 
 // The house bytes that differ, as they are after, and how many modules are lit in each house that has changed.
 fn changed_houses(before: &[u8; TABLE_BYTES], after: &[u8; TABLE_BYTES]) {
-    let mut h: usize = 0;
-    while h < HOUSES {
+    for h in 0..HOUSES {
         house_change(before, after, h);
         lit_change(before, after, h);
-        h += 1;
     }
 }
 
@@ -235,17 +192,6 @@ fn changed_houses(before: &[u8; TABLE_BYTES], after: &[u8; TABLE_BYTES]) {
 pub(crate) fn changed_modules(before: &[u8; TABLE_BYTES], after: &[u8; TABLE_BYTES]) {
     changed_records(before, after);
     changed_houses(before, after);
-}
-
-// Whether shutter i differs between two tables.
-fn shutter_differs(
-    before: &[u8; SHUTTER_TABLE_BYTES],
-    after: &[u8; SHUTTER_TABLE_BYTES],
-    i: usize,
-) -> bool
-    requires { i < 256 }
-{
-    bytes_differ(before, after, i * SHUTTER_BYTES, SHUTTER_BYTES)
 }
 
 // A lifestyle and the opening in it, where the shutter is included.
@@ -284,25 +230,19 @@ fn shutter(t: &[u8; SHUTTER_TABLE_BYTES], i: usize)
     print(b"\n");
 }
 
-// Shutter i, if it differs, as it is after.
-fn shutter_change(before: &[u8; SHUTTER_TABLE_BYTES], after: &[u8; SHUTTER_TABLE_BYTES], i: usize)
-    requires { i < 256 }
-{
-    if shutter_differs(before, after, i) {
-        shutter(after, i);
+// The shutters that differ, as they are after.
+fn changed_shutters(before: &[u8; SHUTTER_TABLE_BYTES], after: &[u8; SHUTTER_TABLE_BYTES]) {
+    for i in 0..SHUTTERS {
+        if differ(before, after, i * SHUTTER_BYTES, SHUTTER_BYTES) {
+            shutter(after, i);
+        }
     }
 }
 
-// The shutters that differ, as they are after.
-pub(crate) fn changed_shutters(
-    before: &[u8; SHUTTER_TABLE_BYTES],
-    after: &[u8; SHUTTER_TABLE_BYTES],
-) {
-    let mut i: usize = 0;
-    while i < SHUTTERS {
-        shutter_change(before, after, i);
-        i += 1;
-    }
+// What differs in a room's two tables.
+pub(crate) fn changed(before: &Room, after: &Room) {
+    changed_modules(&before.table, &after.table);
+    changed_shutters(&before.shutters, &after.shutters);
 }
 
 // The eight bytes that the tables answered to half-cycle n of a line, 1 to 127, the lowest first.
@@ -311,13 +251,6 @@ pub(crate) fn answered(answers: &[u8; ANSWERS], n: u8)
 {
     let at = (n as usize - 1) * 8;
     field(b"  half-cycle ", n);
-    field(b" answered ", answers[at]);
-    field(b" ", answers[at + 1]);
-    field(b" ", answers[at + 2]);
-    field(b" ", answers[at + 3]);
-    field(b" ", answers[at + 4]);
-    field(b" ", answers[at + 5]);
-    field(b" ", answers[at + 6]);
-    field(b" ", answers[at + 7]);
+    fields(b" answered", &answers[at..at + 8]);
     print(b"\n");
 }

@@ -2,7 +2,7 @@
 // shutter that it changed, as they are then, and how many modules are lit in each house that it changed.
 use crate::show;
 use message::{Function, Message};
-use radio::{RadioBytes, RadioCommand};
+use radio::RadioCommand;
 use record::{LIT_AT, RECORD_BYTES, TABLE_BYTES};
 use room::apply;
 use room::routes::radio_route;
@@ -15,149 +15,89 @@ pub(crate) struct Room {
     pub(crate) shutters: [u8; SHUTTER_TABLE_BYTES],
 }
 
-// A module of a kind and a level at a place, 0 to 255, in no group.
-fn with(table: [u8; TABLE_BYTES], place: u8, kind: u8, level: u8) -> [u8; TABLE_BYTES] {
-    let mut t = table;
-    let at = place as usize * RECORD_BYTES;
-    t[at] = kind;
-    t[at + 1] = level;
-    t
-}
-
-// The table with another number as that of the modules lit in a house, 0 to 15.
-fn with_lit(table: [u8; TABLE_BYTES], house: u8, lit: u8) -> [u8; TABLE_BYTES] {
-    let mut t = table;
-    t[LIT_AT + (house % 16) as usize] = lit;
-    t
-}
-
-// Lamps A1 to A3 and appliance A4, all dark, and lamp B1 at 40, which no message for house A reaches; no shutter.
-pub(crate) fn new_room() -> Room {
-    let t = [0u8; TABLE_BYTES];
-    let t = with(t, 0, 1, 0);
-    let t = with(t, 1, 1, 0);
-    let t = with(t, 2, 1, 0);
-    let t = with(t, 3, 2, 0);
-    let t = with(t, 16, 1, 40);
-    let t = with_lit(t, 1, 1);
-    let none = [0u8; SHUTTER_TABLE_BYTES];
-    Room {
-        table: t,
-        shutters: none,
+impl Room {
+    // Lamps A1 to A3 and appliance A4, all dark, and lamp B1 at 40, which no message for house A reaches; no shutter.
+    pub(crate) fn new() -> Room {
+        let mut room = Room {
+            table: [0; TABLE_BYTES],
+            shutters: [0; SHUTTER_TABLE_BYTES],
+        };
+        room.put(0, 1, 0);
+        room.put(1, 1, 0);
+        room.put(2, 1, 0);
+        room.put(3, 2, 0);
+        room.put(16, 1, 40);
+        room.table[LIT_AT + 1] = 1;
+        room
     }
-}
 
-// The room, in which house A is dark, with lamp A2 at 64, which no module table may have.
-pub(crate) fn damaged(room: Room) -> Room {
-    let table = room.table;
-    let shutters = room.shutters;
-    let t = with(table, 1, 1, 64);
-    let t = with_lit(t, 0, 1);
-    Room {
-        table: t,
-        shutters: shutters,
+    // A module of a kind and a level at a place, 0 to 255; it stays in its groups.
+    fn put(&mut self, place: u8, kind: u8, level: u8) {
+        let at = place as usize * RECORD_BYTES;
+        self.table[at] = kind;
+        self.table[at + 1] = level;
     }
-}
 
-// The room with lamp A2 as a member of group 0, and of no other, with a reference: 17 and above no module table may have.
-pub(crate) fn referenced(room: Room, reference: u8) -> Room {
-    let table = room.table;
-    let shutters = room.shutters;
-    let mut t = table;
-    t[RECORD_BYTES + 3] = 1;
-    t[RECORD_BYTES + 8] = reference;
-    Room {
-        table: t,
-        shutters: shutters,
+    // Another number as that of the modules lit in house A.
+    pub(crate) fn count(&mut self, lit: u8) {
+        self.table[LIT_AT] = lit;
     }
-}
 
-// The room with another number as that of the modules lit in house A.
-pub(crate) fn counted(room: Room, lit: u8) -> Room {
-    let table = room.table;
-    let shutters = room.shutters;
-    let t = with_lit(table, 0, lit);
-    Room {
-        table: t,
-        shutters: shutters,
+    // Lamp A2 at 64, which no module table may have, while the others of house A are dark.
+    pub(crate) fn damage(&mut self) {
+        self.put(1, 1, 64);
+        self.count(1);
     }
-}
 
-// Applies a message and prints what came of it.
-pub(crate) fn send(room: Room, m: Message) -> Room {
-    let table = room.table;
-    let shutters = room.shutters;
-    let mut t = table;
-    let mut s = shutters;
-    let a = apply(&mut t, &mut s, m);
-    show::applied(m, a);
-    show::changed_modules(&table, &t);
-    show::changed_shutters(&shutters, &s);
-    Room {
-        table: t,
-        shutters: s,
+    // Lamp A2 as a member of group 0, and of no other, with a reference: 17 and above no module table may have.
+    pub(crate) fn refer(&mut self, reference: u8) {
+        self.table[RECORD_BYTES + 3] = 1;
+        self.table[RECORD_BYTES + 8] = reference;
     }
-}
 
-// The same for house A: an address, a function, an extended command.
-pub(crate) fn address(room: Room, unit: u8) -> Room {
-    send(
-        room,
-        Message::Address {
-            house: 0,
-            unit: unit,
-        },
-    )
-}
+    // Another byte at a place, 0 to 255, of the shutter table.
+    pub(crate) fn replace(&mut self, at: u8, value: u8) {
+        self.shutters[at as usize] = value;
+    }
 
-pub(crate) fn function(room: Room, f: Function) -> Room {
-    send(
-        room,
-        Message::Function {
-            house: 0,
-            function: f,
-        },
-    )
-}
+    // Applies a message and prints what came of it.
+    pub(crate) fn send(&mut self, m: Message) {
+        let before = *self;
+        let a = apply(&mut self.table, &mut self.shutters, m);
+        show::applied(m, a);
+        show::changed(&before, self);
+    }
 
-pub(crate) fn extended(room: Room, unit: u8, command: u8, data: u8) -> Room {
-    extended_at(room, 0, unit, command, data)
-}
+    // The same for house A: an address, a function, an extended command.
+    pub(crate) fn address(&mut self, unit: u8) {
+        self.send(Message::Address { house: 0, unit });
+    }
 
-// An extended command for any house.
-pub(crate) fn extended_at(room: Room, house: u8, unit: u8, command: u8, data: u8) -> Room {
-    send(
-        room,
-        Message::Extended {
-            house: house,
-            unit: unit,
-            data: data,
-            command: command,
-        },
-    )
-}
+    pub(crate) fn function(&mut self, function: Function) {
+        self.send(Message::Function { house: 0, function });
+    }
 
-// On of a unit of house A, pressed on a radio keypad: four bytes.
-pub(crate) fn radio_on(before: Room, unit: u8) -> Room {
-    let table = before.table;
-    let shutters = before.shutters;
-    let mut t = table;
-    let mut s = shutters;
-    match radio::write(RadioCommand::On {
-        house: 0,
-        unit: unit,
-    }) {
-        RadioBytes::Bytes(b, x, c, y) => {
-            let code = [b, x, c, y];
-            let a = radio_route(&mut t, &mut s, &code);
+    pub(crate) fn extended(&mut self, unit: u8, command: u8, data: u8) {
+        self.extended_at(0, unit, command, data);
+    }
+
+    // An extended command for any house.
+    pub(crate) fn extended_at(&mut self, house: u8, unit: u8, command: u8, data: u8) {
+        self.send(Message::Extended {
+            house,
+            unit,
+            data,
+            command,
+        });
+    }
+
+    // On of a unit of house A, pressed on a radio keypad: four bytes.
+    pub(crate) fn radio_on(&mut self, unit: u8) {
+        let before = *self;
+        if let Ok(code) = radio::write(RadioCommand::On { house: 0, unit }) {
+            let a = radio_route(&mut self.table, &mut self.shutters, &code);
             show::coded(&code, a);
         }
-        RadioBytes::Refused(_) => {}
-    }
-    show::changed_modules(&table, &t);
-    show::changed_shutters(&shutters, &s);
-    Room {
-        table: t,
-        shutters: s,
+        show::changed(&before, self);
     }
 }

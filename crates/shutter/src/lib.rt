@@ -2,19 +2,20 @@
 
 #![tactic(auto)]
 
-ghost use Rattle.std.specs.Prelude.{◌≡◌, min, eqb, get_or, set};
+ghost use Rattle.std.specs.Prelude.{◌≡◌, eqb, set};
 ghost use Rattle.ground.specs.Choice.{pick};
 ghost use Rattle.plan.specs.Motions.{OPEN};
 ghost use Rattle.shutter.specs.Shutters.{lifestyle_ok, fields_ok, included, opening_for};
 ghost use Rattle.shutter.specs.Shutters.{with_opening, with_limit, with_protection, with_lifestyles, moved, cut, step_shutter};
 
+use ground::{choose, number_at};
 use plan::{Motion, OPEN};
 
 // The lifestyles.
 pub const LIFESTYLES: usize = 8;
 
 // A shutter: present 0 or 1; its opening, 0 closed to 25 open, and its limit; sun protection 0 or 1; for each lifestyle a mark, 1 where it is included, and its
-// opening there.
+// opening there. Its bytes and no enums: `shutter_table::run` takes tables that break a rule, and its clause `table` says what becomes of any byte.
 #[derive(Clone, Copy)]
 pub struct Shutter {
     pub present: u8,
@@ -23,13 +24,6 @@ pub struct Shutter {
     pub protection: u8,
     pub marks: [u8; LIFESTYLES],
     pub openings: [u8; LIFESTYLES],
-}
-
-// The lower of two numbers.
-fn lower(x: u8, y: u8) -> u8
-    ensures { result ≡ min x y }
-{
-    if x < y { x } else { y }
 }
 
 // Whether a lifestyle can have the mark and the opening.
@@ -54,72 +48,36 @@ pub fn fields_valid(present: u8, opening: u8, limit: u8, protection: u8) -> bool
     (present <= 1) & (limit <= OPEN) & (protection <= 1) & (opening <= most(limit, protection))
 }
 
-// One of eight numbers; there is 0 beyond them.
-fn number_at(xs: [u8; LIFESTYLES], l: u8) -> u8
-    ensures { result ≡ get_or xs l 0 }
-{
-    let i = l as usize;
-    if i < LIFESTYLES { xs[i] } else { 0 }
-}
-
 // Eight numbers with another at one place; a place beyond them is none.
-fn put_at(xs: [u8; LIFESTYLES], l: u8, x: u8) -> [u8; LIFESTYLES]
+fn put_at(mut xs: [u8; LIFESTYLES], l: u8, x: u8) -> [u8; LIFESTYLES]
     ensures { result ≡ set xs l x }
 {
     let i = l as usize;
-    let mut out = xs;
     if i < LIFESTYLES {
-        out[i] = x;
+        xs[i] = x;
     }
-    out
+    xs
 }
 
 // The shutter with another opening.
 fn with_opening(x: u8, s: Shutter) -> Shutter
     ensures { result ≡ with_opening x s }
 {
-    let marks = s.marks;
-    let openings = s.openings;
-    Shutter {
-        present: s.present,
-        opening: x,
-        limit: s.limit,
-        protection: s.protection,
-        marks: marks,
-        openings: openings,
-    }
+    Shutter { opening: x, ..s }
 }
 
 // The shutter with another limit.
 fn with_limit(x: u8, s: Shutter) -> Shutter
     ensures { result ≡ with_limit x s }
 {
-    let marks = s.marks;
-    let openings = s.openings;
-    Shutter {
-        present: s.present,
-        opening: s.opening,
-        limit: x,
-        protection: s.protection,
-        marks: marks,
-        openings: openings,
-    }
+    Shutter { limit: x, ..s }
 }
 
 // The shutter with sun protection enabled, 1, or disabled, 0.
 fn with_protection(p: u8, s: Shutter) -> Shutter
     ensures { result ≡ with_protection p s }
 {
-    let marks = s.marks;
-    let openings = s.openings;
-    Shutter {
-        present: s.present,
-        opening: s.opening,
-        limit: s.limit,
-        protection: p,
-        marks: marks,
-        openings: openings,
-    }
+    Shutter { protection: p, ..s }
 }
 
 // The shutter with other marks and openings for the lifestyles.
@@ -127,12 +85,9 @@ fn with_lifestyles(marks: [u8; LIFESTYLES], openings: [u8; LIFESTYLES], s: Shutt
     ensures { result ≡ with_lifestyles marks openings s }
 {
     Shutter {
-        present: s.present,
-        opening: s.opening,
-        limit: s.limit,
-        protection: s.protection,
-        marks: marks,
-        openings: openings,
+        marks,
+        openings,
+        ..s
     }
 }
 
@@ -140,19 +95,15 @@ fn with_lifestyles(marks: [u8; LIFESTYLES], openings: [u8; LIFESTYLES], s: Shutt
 fn with_lifestyle(l: u8, mark: u8, x: u8, s: Shutter) -> Shutter
     ensures { result ≡ with_lifestyles (set s.marks l mark) (set s.openings l x) s }
 {
-    let marks = s.marks;
-    let openings = s.openings;
-    with_lifestyles(put_at(marks, l, mark), put_at(openings, l, x), s)
+    with_lifestyles(put_at(s.marks, l, mark), put_at(s.openings, l, x), s)
 }
 
 // The shutter opened as far as it is to be in a lifestyle, where it is included.
 fn begun(l: u8, s: Shutter) -> Shutter
     ensures { result ≡ pick (included l s) (with_opening (opening_for l s) s) s }
 {
-    let marks = s.marks;
-    let openings = s.openings;
-    if number_at(marks, l) == 1 {
-        with_opening(number_at(openings, l), s)
+    if number_at(s.marks, l) == 1 {
+        with_opening(number_at(s.openings, l), s)
     } else {
         s
     }
@@ -164,24 +115,19 @@ fn moved(motion: Motion, s: Shutter) -> Shutter
 {
     match motion {
         Motion::SelfTest => s,
-        Motion::OpenProtected { unit: _, opening } => with_protection(1, with_opening(opening, s)),
-        Motion::Limit { unit: _, limit } => with_protection(1, with_limit(limit, s)),
-        Motion::OpenUnprotected { unit: _, opening } => with_protection(
-            0,
-            with_opening(opening, s),
-        ),
-        Motion::OpenHouse => with_protection(0, with_opening(OPEN, s)),
-        Motion::OpenAll => with_protection(0, with_opening(OPEN, s)),
+        Motion::OpenProtected { opening, .. } => with_protection(1, with_opening(opening, s)),
+        Motion::Limit { limit, .. } => with_protection(1, with_limit(limit, s)),
+        Motion::OpenUnprotected { opening, .. } => with_protection(0, with_opening(opening, s)),
+        Motion::OpenHouse | Motion::OpenAll => with_protection(0, with_opening(OPEN, s)),
         Motion::Include {
-            unit: _,
             lifestyle,
             opening,
+            ..
         } => with_lifestyle(lifestyle, 1, opening, s),
         Motion::Begin { lifestyle } => begun(lifestyle, s),
-        Motion::Exclude { unit: _, lifestyle } => with_lifestyle(lifestyle, 0, 0, s),
+        Motion::Exclude { lifestyle, .. } => with_lifestyle(lifestyle, 0, 0, s),
         Motion::ExcludeAll => with_lifestyles([0; LIFESTYLES], [0; LIFESTYLES], s),
-        Motion::CloseHouse => with_protection(1, with_opening(0, s)),
-        Motion::CloseAll => with_protection(1, with_opening(0, s)),
+        Motion::CloseHouse | Motion::CloseAll => with_protection(1, with_opening(0, s)),
     }
 }
 
@@ -189,18 +135,8 @@ fn moved(motion: Motion, s: Shutter) -> Shutter
 fn cut(s: Shutter) -> Shutter
     ensures { result ≡ cut s }
 {
-    let marks = s.marks;
-    let openings = s.openings;
-    let low = lower(s.limit, s.opening);
-    let opening = if s.protection == 1 { low } else { s.opening };
-    Shutter {
-        present: s.present,
-        opening: opening,
-        limit: s.limit,
-        protection: s.protection,
-        marks: marks,
-        openings: openings,
-    }
+    let opening = choose(s.protection == 1, s.limit.min(s.opening), s.opening);
+    with_opening(opening, s)
 }
 
 // What becomes of a shutter that a motion reaches; which unit it names is not looked at. Where protection is then on, an opening above the limit is cut to it.

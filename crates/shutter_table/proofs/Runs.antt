@@ -2,6 +2,7 @@
 --
 --     Ran, runs        what it answers and leaves
 --     motion_order     MotionOrder
+use Rattle.std.specs.Prelude.{Ok}
 use mathlib.Core.Path.{◌≡◌, refl}
 use mathlib.Core.Bool.{true}
 use mathlib.Core.List.{List}
@@ -10,14 +11,13 @@ use native.Mathlib.Omega.{arith}
 use borrow.Author.Tests.{eq-eqb, le-leb}
 use lib.ListN.{length}
 use Rattle.ground.specs.Refusals.{judged}
-use Rattle.ground.specs.declared.CountAnswer.TheVariants.{Done}
 use Rattle.plan.specs.Motions.{motion_fits}
 use Rattle.plan.specs.declared.Motion.{Motion}
 use Rattle.shutter_table.specs.ShutterRuns.{unit_named, motion_answer, shutters_after, MotionOrder}
 use Rattle.shutter_table.specs.ShutterTable.{SHUTTER_TABLE_BYTES, move_all, openings_changed}
 
 pub record Ran (a : Motion) (h : ℕ) (t : List ℕ) : Type 0 where
-  pub answer : motion_answer a h t ≡ Done (openings_changed t (move_all a h t))
+  pub answer : motion_answer a h t ≡ Ok (openings_changed t (move_all a h t))
   pub table : shutters_after a h t ≡ move_all a h t
 
 pub runs : (a : Motion) (h : ℕ) (t : List ℕ) → length t ≡ SHUTTER_TABLE_BYTES → h < 16 → unit_named a < 16 → motion_fits a ≡ true → Ran a h t

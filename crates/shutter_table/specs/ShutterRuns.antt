@@ -1,14 +1,13 @@
 -- A motion run on the lent bytes of a shutter table, whatever they are: why it is refused, what is answered, and what is left.
-use Rattle.std.specs.Prelude.{ℕ, ◌≡◌, ◌&&◌, List, [], ◌∷◌, map, eqb, leb, length}
+use Rattle.std.specs.Prelude.{ℕ, ◌≡◌, ◌&&◌, List, [], ◌∷◌, map, eqb, leb, length, Result, Ok, Err}
 use Rattle.ground.specs.Refusals.{Cause, unless, judged, cause_number}
-use Rattle.ground.specs.declared.CountAnswer.{CountAnswer}
-use Rattle.ground.specs.declared.CountAnswer.TheVariants.{Done, Refused}
 use Rattle.ground.specs.declared.Refusal.TheVariants as refusal
 use Rattle.plan.specs.Motions.{motion_fits}
 use Rattle.plan.specs.declared.Motion.{Motion}
 use Rattle.plan.specs.declared.Motion.TheVariants.{SelfTest, OpenProtected, Limit, OpenUnprotected, OpenHouse, OpenAll}
 use Rattle.plan.specs.declared.Motion.TheVariants.{Include, Begin, Exclude, ExcludeAll, CloseHouse, CloseAll}
 use Rattle.shutter_table.specs.ShutterTable.{SHUTTER_TABLE_BYTES, move_all, openings_changed}
+use Rattle.ground.specs.declared.Refusal.{Refusal}
 
 -- the unit that a motion names; 0 where it names none
 abbrev pub unit_named : Motion → ℕ
@@ -34,8 +33,8 @@ motion_causes a h t =
     ∷ []
 
 -- the answer: the shutters whose opening differs
-unfoldable pub motion_answer : Motion → ℕ → List ℕ → CountAnswer
-motion_answer a h t = judged (motion_causes a h t) (Done (openings_changed t (move_all a h t))) Refused
+unfoldable pub motion_answer : Motion → ℕ → List ℕ → Result ℕ Refusal
+motion_answer a h t = judged (motion_causes a h t) (Ok (openings_changed t (move_all a h t))) Err
 
 -- the table that is left: a refusal "changes nothing lent"
 unfoldable pub shutters_after : Motion → ℕ → List ℕ → List ℕ

@@ -2,7 +2,7 @@
 
 #![tactic(auto)]
 
-ghost use Rattle.std.specs.Prelude.{◌≡◌, true, [], ◌∷◌, ◌+◌, ◌*◌, ◌≤◌, ◌<◌, length};
+ghost use Rattle.std.specs.Prelude.{◌≡◌, true, false, [], ◌∷◌, ◌+◌, ◌*◌, ◌≤◌, ◌<◌, length};
 ghost use Rattle.std.proofs.lemmas.List.Edits.{sets};
 ghost use Rattle.ground.specs.Records.{put_at, Stepped, all_below};
 ghost use Rattle.shutter.specs.Shutters.{LIFESTYLES, lifestyles_ok, no_lifestyles, shutter_ok, step_shutter};
@@ -13,7 +13,7 @@ ghost use Rattle.shutter_table.specs.ShutterRuns.{unit_named, motion_answer, shu
 ghost use Rattle.shutter_table.specs.ShutterTable.{SHUTTERS, SHUTTER_BYTES, SHUTTER_TABLE_BYTES, shutter_at, shutters, shutters_ok, move_all};
 ghost use Rattle.shutter_table.specs.ShutterTable.{opening_of, openings_changed};
 
-use ground::{CountAnswer, Refusal, count_of, zeros};
+use ground::{Refusal, count_of, zeros};
 use plan::{Motion, motion_fits};
 use shutter::{LIFESTYLES, Shutter, fields_valid, lifestyle_valid, step};
 
@@ -36,9 +36,12 @@ const EIGHT_BYTES: usize = EIGHT * SHUTTER_BYTES;
 
 const EIGHTS: usize = SHUTTERS / EIGHT;
 
+// The bytes of a table as an array, so that their number stands in the type.
+type Table = [u8; SHUTTER_TABLE_BYTES];
+
 // Shutter i of a table.
-fn load(t: &[u8], i: usize) -> Shutter
-    requires { (length t.now ≡ SHUTTER_TABLE_BYTES) × (i < SHUTTERS) }
+fn load(t: &Table, i: usize) -> Shutter
+    requires { i < SHUTTERS }
     ensures { result ≡ shutter_at t.now i }
 {
     let at = i * SHUTTER_BYTES;
@@ -72,38 +75,34 @@ fn load(t: &[u8], i: usize) -> Shutter
 
 // Whether each lifestyle of shutter i can have its mark and its opening. The eight are tested straight from the bytes and with no early way out: the compiler
 // then makes one test of them.
-fn styles_ok(t: &[u8], i: usize) -> bool
-    requires { (length t.now ≡ SHUTTER_TABLE_BYTES) × (i < SHUTTERS) }
+fn styles_ok(t: &Table, i: usize) -> bool
+    requires { i < SHUTTERS }
     ensures { result ≡ lifestyles_ok LIFESTYLES (shutter_at t.now i) }
 {
     let at = i * SHUTTER_BYTES;
     let mut ok = true;
-    let mut l = 0;
-    while l < LIFESTYLES {
-        ok = ok & lifestyle_valid(t[at + 4 + l], t[at + 12 + l]);
-        l += 1;
+    for l in 0..LIFESTYLES {
+        ok &= lifestyle_valid(t[at + 4 + l], t[at + 12 + l]);
     }
     ok
 }
 
 // Whether no lifestyle of shutter i has a mark or an opening.
-fn no_styles(t: &[u8], i: usize) -> bool
-    requires { (length t.now ≡ SHUTTER_TABLE_BYTES) × (i < SHUTTERS) }
+fn no_styles(t: &Table, i: usize) -> bool
+    requires { i < SHUTTERS }
     ensures { result ≡ no_lifestyles LIFESTYLES (shutter_at t.now i) }
 {
     let at = i * SHUTTER_BYTES;
     let mut none = true;
-    let mut l = 0;
-    while l < LIFESTYLES {
-        none = none & ((t[at + 4 + l] == 0) & (t[at + 12 + l] == 0));
-        l += 1;
+    for l in 0..LIFESTYLES {
+        none &= (t[at + 4 + l] == 0) & (t[at + 12 + l] == 0);
     }
     none
 }
 
 // Whether shutter i keeps the rules: an absent one is all zeros.
-fn shutter_ok(t: &[u8], i: usize) -> bool
-    requires { (length t.now ≡ SHUTTER_TABLE_BYTES) × (i < SHUTTERS) }
+fn shutter_ok(t: &Table, i: usize) -> bool
+    requires { i < SHUTTERS }
     ensures { result ≡ shutter_ok (shutter_at t.now i) }
 {
     let at = i * SHUTTER_BYTES;
@@ -117,24 +116,22 @@ fn shutter_ok(t: &[u8], i: usize) -> bool
 }
 
 // Whether each shutter of the e-th eight keeps the rules. It ends at the first that does not.
-fn each_ok(t: &[u8], e: usize) -> bool
-    requires { (length t.now ≡ SHUTTER_TABLE_BYTES) × (e < EIGHTS) }
+fn each_ok(t: &Table, e: usize) -> bool
+    requires { e < EIGHTS }
     ensures { result ≡ eight_ok e t.now }
 {
     let first = e * EIGHT;
-    let mut n = 0;
-    while n < EIGHT {
+    for n in 0..EIGHT {
         if !shutter_ok(t, first + n) {
             return false;
         }
-        n += 1;
     }
     true
 }
 
 // The same, and eight absent shutters are passed over.
-fn eight_ok(t: &[u8], e: usize) -> bool
-    requires { (length t.now ≡ SHUTTER_TABLE_BYTES) × (e < EIGHTS) }
+fn eight_ok(t: &Table, e: usize) -> bool
+    requires { e < EIGHTS }
     ensures { result ≡ eight_ok e t.now }
 {
     let from = e * EIGHT_BYTES;
@@ -145,15 +142,12 @@ fn eight_ok(t: &[u8], e: usize) -> bool
 }
 
 // Whether each shutter keeps the rules.
-fn all_ok(t: &[u8]) -> bool
-    requires { length t.now ≡ SHUTTER_TABLE_BYTES }
+fn all_ok(t: &Table) -> bool
     ensures { result ≡ all_below SHUTTERS (λ i. shutter_ok (shutter_at t.now i)) }
 {
     let mut ok = true;
-    let mut e = 0;
-    while e < EIGHTS {
-        ok = ok & eight_ok(t, e);
-        e += 1;
+    for e in 0..EIGHTS {
+        ok &= eight_ok(t, e);
     }
     ok
 }
@@ -162,15 +156,15 @@ fn all_ok(t: &[u8]) -> bool
 pub fn valid(t: &[u8]) -> bool
     ensures { result ≡ shutters_ok t.now }
 {
-    if t.len() != SHUTTER_TABLE_BYTES {
-        return false;
+    match t.as_array() {
+        Some(whole) => all_ok(whole),
+        None => false,
     }
-    all_ok(t)
 }
 
 // Puts eight bytes at a place of a table, and says that they are eight.
-fn put_eight(t: &mut [u8], at: usize, xs: [u8; LIFESTYLES])
-    requires { (length t.old ≡ SHUTTER_TABLE_BYTES) × (at + LIFESTYLES ≤ SHUTTER_TABLE_BYTES) }
+fn put_eight(t: &mut Table, at: usize, xs: [u8; LIFESTYLES])
+    requires { at + LIFESTYLES ≤ SHUTTER_TABLE_BYTES }
     ensures { (t.new ≡ sets t.old at xs) × (length xs ≡ LIFESTYLES) }
 {
     t[at] = xs[0];
@@ -184,24 +178,22 @@ fn put_eight(t: &mut [u8], at: usize, xs: [u8; LIFESTYLES])
 }
 
 // Puts a shutter at place i of a table.
-fn store(t: &mut [u8], i: usize, s: Shutter)
-    requires { (length t.old ≡ SHUTTER_TABLE_BYTES) × (i < SHUTTERS) }
+fn store(t: &mut Table, i: usize, s: Shutter)
+    requires { i < SHUTTERS }
     ensures { t.new ≡ put_at shutters t.old i s }
 {
     let at = i * SHUTTER_BYTES;
-    let marks = s.marks;
-    let openings = s.openings;
     t[at] = s.present;
     t[at + 1] = s.opening;
     t[at + 2] = s.limit;
     t[at + 3] = s.protection;
-    put_eight(t, at + 4, marks);
-    put_eight(t, at + 12, openings);
+    put_eight(t, at + 4, s.marks);
+    put_eight(t, at + 12, s.openings);
 }
 
 // Puts what a motion can change of a shutter beside its lifestyles: the three bytes after that of its presence.
-fn store_fields(t: &mut [u8], i: usize, stepped: Shutter)
-    requires { (length t.old ≡ SHUTTER_TABLE_BYTES) × (i < SHUTTERS) }
+fn store_fields(t: &mut Table, i: usize, stepped: Shutter)
+    requires { i < SHUTTERS }
     ensures { t.new ≡ sets t.old (i * SHUTTER_BYTES + 1) (stepped.opening ∷ stepped.limit ∷ stepped.protection ∷ []) }
 {
     let at = i * SHUTTER_BYTES;
@@ -214,39 +206,17 @@ fn store_fields(t: &mut [u8], i: usize, stepped: Shutter)
 fn keeps_lifestyles(motion: Motion) -> bool
     ensures { result ≡ keeps_lifestyles motion }
 {
-    match motion {
-        Motion::SelfTest => true,
-        Motion::OpenProtected {
-            unit: _,
-            opening: _,
-        } => true,
-        Motion::Limit { unit: _, limit: _ } => true,
-        Motion::OpenUnprotected {
-            unit: _,
-            opening: _,
-        } => true,
-        Motion::OpenHouse => true,
-        Motion::OpenAll => true,
-        Motion::Include {
-            unit: _,
-            lifestyle: _,
-            opening: _,
-        } => false,
-        Motion::Begin { lifestyle: _ } => true,
-        Motion::Exclude {
-            unit: _,
-            lifestyle: _,
-        } => false,
-        Motion::ExcludeAll => false,
-        Motion::CloseHouse => true,
-        Motion::CloseAll => true,
-    }
+    !matches!(
+        motion,
+        Motion::Include { .. } | Motion::Exclude { .. } | Motion::ExcludeAll
+    )
 }
 
-// Steps shutter i of a table by a motion that leaves the lifestyles, whose sixteen bytes are then not stored. Answers 1 where its opening changed. An absent
-// shutter stays as it is.
-fn step_fields(t: &mut [u8], i: usize, motion: Motion) -> usize
-    requires { (length t.old ≡ SHUTTER_TABLE_BYTES) × (i < SHUTTERS) × (keeps_lifestyles motion ≡ true) }
+// Steps shutter i of a table by a motion, and answers 1 where its opening changed. An absent shutter stays as it is. WHOLE may be false where the motion leaves
+// the lifestyles, whose sixteen bytes are then not stored. It is a const parameter, so that each of the two has a loop of its own: with the choice of what to
+// store in one loop each turn took a quarter more instructions.
+fn step_at<const WHOLE: bool>(t: &mut Table, i: usize, motion: Motion) -> usize
+    requires { (i < SHUTTERS) × (WHOLE ≡ false → keeps_lifestyles motion ≡ true) }
     ensures { Stepped shutters opening_of (step_shutter motion) i t.old t.new result }
 {
     if t[i * SHUTTER_BYTES] != 1 {
@@ -254,22 +224,12 @@ fn step_fields(t: &mut [u8], i: usize, motion: Motion) -> usize
     }
     let before = load(t, i);
     let stepped = step(motion, before);
-    store_fields(t, i, stepped);
-    count_of(before.opening == stepped.opening)
-}
-
-// The same by any motion.
-fn step_whole(t: &mut [u8], i: usize, motion: Motion) -> usize
-    requires { (length t.old ≡ SHUTTER_TABLE_BYTES) × (i < SHUTTERS) }
-    ensures { Stepped shutters opening_of (step_shutter motion) i t.old t.new result }
-{
-    if t[i * SHUTTER_BYTES] != 1 {
-        return 0;
+    if WHOLE {
+        store(t, i, stepped);
+    } else {
+        store_fields(t, i, stepped);
     }
-    let before = load(t, i);
-    let after = step(motion, before);
-    store(t, i, after);
-    count_of(before.opening == after.opening)
+    count_of(before.opening == stepped.opening)
 }
 
 // The places that a motion reaches: how many they are, and the first of them.
@@ -283,10 +243,7 @@ struct Places {
 fn reaching(first: usize, many: usize) -> Places
     ensures { result ≡ record { first = first; many = many } }
 {
-    Places {
-        first: first,
-        many: many,
-    }
+    Places { first, many }
 }
 
 // The places that a motion for a house reaches: one unit, the sixteen of the house, those of every house, or none.
@@ -297,21 +254,14 @@ fn places_of(motion: Motion, house: usize) -> Places
     let first = house * UNITS;
     match motion {
         Motion::SelfTest => reaching(0, 0),
-        Motion::OpenProtected { unit, opening: _ } => reaching(first + unit as usize, 1),
-        Motion::Limit { unit, limit: _ } => reaching(first + unit as usize, 1),
-        Motion::OpenUnprotected { unit, opening: _ } => reaching(first + unit as usize, 1),
-        Motion::OpenHouse => reaching(first, UNITS),
-        Motion::OpenAll => reaching(0, SHUTTERS),
-        Motion::Include {
-            unit,
-            lifestyle: _,
-            opening: _,
-        } => reaching(first + unit as usize, 1),
-        Motion::Begin { lifestyle: _ } => reaching(0, SHUTTERS),
-        Motion::Exclude { unit, lifestyle: _ } => reaching(first + unit as usize, 1),
-        Motion::ExcludeAll => reaching(0, SHUTTERS),
-        Motion::CloseHouse => reaching(first, UNITS),
-        Motion::CloseAll => reaching(0, SHUTTERS),
+        Motion::OpenProtected { unit, .. }
+        | Motion::Limit { unit, .. }
+        | Motion::OpenUnprotected { unit, .. }
+        | Motion::Include { unit, .. }
+        | Motion::Exclude { unit, .. } => reaching(first + unit as usize, 1),
+        Motion::OpenHouse | Motion::CloseHouse => reaching(first, UNITS),
+        // The others are for every house.
+        _ => reaching(0, SHUTTERS),
     }
 }
 
@@ -320,81 +270,54 @@ fn unit_named(motion: Motion) -> u8
     ensures { result ≡ unit_named motion }
 {
     match motion {
-        Motion::SelfTest => 0,
-        Motion::OpenProtected { unit, opening: _ } => unit,
-        Motion::Limit { unit, limit: _ } => unit,
-        Motion::OpenUnprotected { unit, opening: _ } => unit,
-        Motion::OpenHouse => 0,
-        Motion::OpenAll => 0,
-        Motion::Include {
-            unit,
-            lifestyle: _,
-            opening: _,
-        } => unit,
-        Motion::Begin { lifestyle: _ } => 0,
-        Motion::Exclude { unit, lifestyle: _ } => unit,
-        Motion::ExcludeAll => 0,
-        Motion::CloseHouse => 0,
-        Motion::CloseAll => 0,
+        Motion::OpenProtected { unit, .. }
+        | Motion::Limit { unit, .. }
+        | Motion::OpenUnprotected { unit, .. }
+        | Motion::Include { unit, .. }
+        | Motion::Exclude { unit, .. } => unit,
+        _ => 0,
     }
 }
 
-// Steps so many shutters from a place on by a motion that leaves the lifestyles, and answers how many openings changed. It is a loop of its own: with the
-// choice of what to store in it each turn took a quarter more instructions.
-fn run_fields(t: &mut [u8], first: usize, many: usize, motion: Motion) -> usize
-    requires { (length t.old ≡ SHUTTER_TABLE_BYTES) × (first + many ≤ SHUTTERS) × (keeps_lifestyles motion ≡ true) }
+// Steps so many shutters from a place on, and answers how many openings changed.
+fn step_run<const WHOLE: bool>(t: &mut Table, first: usize, many: usize, motion: Motion) -> usize
+    requires { (first + many ≤ SHUTTERS) × (WHOLE ≡ false → keeps_lifestyles motion ≡ true) }
     ensures { SteppedRun motion first many t.old t.new result }
 {
     let mut count: usize = 0;
-    let mut n: usize = 0;
-    while n < many {
-        count = count + step_fields(t, first + n, motion);
-        n += 1;
-    }
-    count
-}
-
-// The same by any motion.
-fn run_whole(t: &mut [u8], first: usize, many: usize, motion: Motion) -> usize
-    requires { (length t.old ≡ SHUTTER_TABLE_BYTES) × (first + many ≤ SHUTTERS) }
-    ensures { SteppedRun motion first many t.old t.new result }
-{
-    let mut count: usize = 0;
-    let mut n: usize = 0;
-    while n < many {
-        count = count + step_whole(t, first + n, motion);
-        n += 1;
+    for n in 0..many {
+        count += step_at::<WHOLE>(t, first + n, motion);
     }
     count
 }
 
 // Runs a motion on the shutters that it reaches, and answers how many openings changed.
-fn run_motion(t: &mut [u8], house: usize, motion: Motion) -> usize
-    requires { (length t.old ≡ SHUTTER_TABLE_BYTES) × (house < 16) × (unit_named motion < 16) }
+fn run_motion(t: &mut Table, house: usize, motion: Motion) -> usize
+    requires { (house < 16) × (unit_named motion < 16) }
     ensures { (t.new ≡ move_all motion house t.old) × (result ≡ openings_changed t.old t.new) }
 {
     let p = places_of(motion, house);
     if keeps_lifestyles(motion) {
-        run_fields(t, p.first, p.many, motion)
+        step_run::<false>(t, p.first, p.many, motion)
     } else {
-        run_whole(t, p.first, p.many, motion)
+        step_run::<true>(t, p.first, p.many, motion)
     }
 }
 
 // Runs a motion for a house on a table, and answers how many openings changed. Refused: a table of another length, then a house or unit above 15, then an
 // opening above 25. The table's rules are not judged.
-pub fn run(t: &mut [u8], house: u8, motion: Motion) -> CountAnswer
+pub fn run(t: &mut [u8], house: u8, motion: Motion) -> Result<usize, Refusal>
     ensures answer { result ≡ motion_answer motion house t.old }
     ensures table { t.new ≡ shutters_after motion house t.old }
 {
-    if t.len() != SHUTTER_TABLE_BYTES {
-        return CountAnswer::Refused(Refusal::ShutterTable);
-    }
+    let Some(whole) = t.as_mut_array() else {
+        return Err(Refusal::ShutterTable);
+    };
     if !((house <= 15) & (unit_named(motion) <= 15)) {
-        return CountAnswer::Refused(Refusal::Message);
+        return Err(Refusal::Message);
     }
     if !motion_fits(motion) {
-        return CountAnswer::Refused(Refusal::Opening);
+        return Err(Refusal::Opening);
     }
-    CountAnswer::Done(run_motion(t, house as usize, motion))
+    Ok(run_motion(whole, house as usize, motion))
 }

@@ -1,6 +1,6 @@
 -- The bench's loops: what holds after i stations, and how one more keeps it.
 --
---     draws_more, get_d_same                             one draw more is judged; a list of one thing
+--     draws_all, get_d_same                              the draws judged one by one; a list of one thing
 --     Looked: looked_none, looked_more, looked_idle     the look: the stations' states, the line, and what each sent
 --             looked_bad, looked_fine, looked_line
 --     Moving: moving_none, moving_more, moving_on       the move: the stations after the line's half-cycle, and the DONE marks
@@ -13,6 +13,7 @@ use native.Mathlib.Nat.{zero-max, max-zero, zero-add, suc-sub-suc, zero-sub, sub
 use native.Mathlib.Omega.{arith}
 use lib.ListN.{length, take, drop, get_or, set, replicate, length-set, length-replicate, length-drop}
 use lib.Seq.{sets, sets-eq, slice, slice-cons, slice_empty, take-suc, take-suc-set, get_or-set_other, set-get_or, length-take-le}
+use Rattle.std.specs.List.{list_all}
 use Rattle.station.specs.declared.Station.{Station}
 use Rattle.station.specs.declared.Turn.{Turn}
 use Rattle.station.specs.Stations.{station_ok, draw_ok, sends_of, turn_of, is_done}
@@ -22,10 +23,10 @@ use Rattle.station.proofs.SlotLaws.{length_moved, length-done}
 
 -- ---- the draws
 
-pub draws_more : (n : ℕ) (draws : List ℕ) (i : ℕ) → n ≤ length draws → i < n
-    → draws_ok (slice i n draws) ≡ (draw_ok (get_or draws i 0) && draws_ok (slice (suc i) n draws))
+pub draws_all : (draws : List ℕ) → draws_ok draws ≡ list_all draw_ok draws
 unfolding draws_ok
-draws_more n draws i enough h = rw (slice-cons i n draws 0 h enough)
+draws_all [] = refl
+draws_all (d ∷ draws) = ap (λ (b : Bool). draw_ok d && b) (draws_all draws)
 
 -- ---- the look
 

@@ -1,4 +1,5 @@
 -- What a station sends is 0 or 1, and when that is a fault.
+use Rattle.std.specs.Prelude.{Option, Some, None}
 use mathlib.Core.Path.{◌≡◌, refl}
 use mathlib.Core.Bool.{Bool, true, false, ◌&&◌}
 use Prim.Native.Nat.{ℕ, zero, suc, ◌≤◌, ◌<◌}
@@ -11,17 +12,15 @@ use Rattle.message.specs.declared.Message.{Message}
 use Rattle.burst.specs.Frames.{burst_of}
 use Rattle.burst.proofs.FrameLaws.{burst_halves}
 use Rattle.station.specs.Stations.{is_empty, held_sends, sends_of}
-use Rattle.station.specs.declared.Held.{Held}
-use Rattle.station.specs.declared.Held.TheVariants.{Empty, Holds}
 use Rattle.station.specs.declared.Station.{Station}
 
 and-false : (b : Bool) → (b && false) ≡ false
 and-false true = refl
 and-false false = refl
 
-held_below : (h : Held) (wait count place : ℕ) → held_sends h wait count place ≤ 1
-held_below Empty wait count place = omega arith
-held_below (Holds m) wait count place = go (eqb count wait)
+held_below : (h : Option Message) (wait count place : ℕ) → held_sends h wait count place ≤ 1
+held_below None wait count place = omega arith
+held_below (Some m) wait count place = go (eqb count wait)
   where
     go : (b : Bool) → pick b (get_or (burst_of m) place 0) 0 ≤ 1
     go true = le_of_suc-le-suc (burst_halves m place)
@@ -46,8 +45,8 @@ pub fault_told : (s : Station) {sent : ℕ} (heard : ℕ) → sends_of s ≡ sen
 fault_told s heard e l = fault (sends_of s) heard (sends_below s) (omega arith)
 
 -- whether a station is empty, by what it holds
-pub is_empty_lem : {h : Held} → h ≡ Empty → is_empty h ≡ true
+pub is_empty_lem : {h : Option Message} → h ≡ None → is_empty h ≡ true
 is_empty_lem e = rw e
 
-pub not_empty : {h : Held} {m : Message} → h ≡ Holds m → is_empty h ≡ false
+pub not_empty : {h : Option Message} {m : Message} → h ≡ Some m → is_empty h ≡ false
 not_empty e = rw e

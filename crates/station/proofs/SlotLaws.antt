@@ -9,6 +9,7 @@
 --     or_max                       of two half-cycles the one or the other is the greater of them
 --     refused_in_slots             a refused call leaves all slots
 --     bench_promise                what a call's answer reports
+use Rattle.std.specs.Prelude.{Err, None}
 use mathlib.Core.Path.{◌≡◌, refl, sym, ap, ap₂, subst, fun_ext, ◌∙◌}
 use mathlib.Core.Bool.{Bool, true, false, and-eq-true_iff}
 use mathlib.Core.List.{List, [], ◌∷◌, ◌++◌, map, zip_with}
@@ -23,13 +24,11 @@ use Rattle.ground.specs.declared.Refusal.{Refusal}
 use Rattle.ground.proofs.Causes.{judged_map}
 use Rattle.message.proofs.Tables.{get_d_any}
 use Rattle.station.specs.declared.Station.{Station}
-use Rattle.station.specs.declared.Held.TheVariants.{Empty}
 use Rattle.station.specs.Stations.{station_ok, draw_ok, sends_of}
 use Rattle.station.proofs.SendLaws.{sends_below}
 use Rattle.station.proofs.TurnLaws.{Movable}
 use Rattle.station.specs.Benches.{line_of, move_all, done_all, stations_ok, draws_ok, turn_all, bench_refused, bench_on, slot_causes, beside, bench_of}
 use Rattle.station.specs.Benches.{bench_report}
-use Rattle.station.specs.declared.bench.BenchAnswer.TheVariants.{Refused}
 use Rattle.station.specs.declared.bench.BenchTurn.{BenchTurn}
 
 -- ---- one of many
@@ -100,7 +99,7 @@ ready_at n slots draws sent line few enough ok drawn heard kept i h e =
 
 -- what an array of stations is taken to have past its end
 abbrev pub zeros : Station
-zeros = record { held = Empty; wait = 0; count = 0; place = 0 }
+zeros = record { held = None; wait = 0; count = 0; place = 0 }
 
 -- a slot that is written by what stands in it, after it was written before
 again : (ss : List Station) (i : ℕ) (e s : Station) (f : Station → Station) → i < length ss → set (set ss i s) i (f (get_or (set ss i s) i e)) ≡ set ss i (f s)
@@ -162,7 +161,7 @@ falses (suc k) n = ap (λ (l : List Bool). false ∷ l) (falses k n) ∙ ap (λ 
 pub refused_in_slots : (n : ℕ) (slots : List Station) (why : Refusal) → beside (drop n slots) (bench_refused (take n slots) why) ≡ bench_refused slots why
 refused_in_slots n slots why =
     let all = sym (length-append (take n slots) (drop n slots)) ∙ ap length (take-append-drop n slots) in
-    ap₂ {C = BenchTurn} (λ (d : List Bool) (s : List Station). record { answer = Refused why; done = d; slots = s })
+    ap₂ {C = BenchTurn} (λ (d : List Bool) (s : List Station). record { answer = Err why; done = d; slots = s })
     (falses (length (take n slots)) (length (drop n slots)) ∙ ap (λ (x : ℕ). replicate x false) all) (take-append-drop n slots)
 
 pub bench_promise : {o : BenchTurn} (n : ℕ) (slots : List Station) (draws : List ℕ)

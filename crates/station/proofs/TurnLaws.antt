@@ -1,12 +1,13 @@
 -- Laws of a station whose state is one of 01's.
 --
---     sends_told, refuses_told                   what the answer of `sends` says of the state
+--     sends_told, refuses_told, ok_told          what the answer of `sends` says of the state
 --     Movable, turn_empty                        a judged station that has sent and heard; an empty one stays
 --     turn_aborts, turn_counts, turn_goes, turn_ends     what one half-cycle makes of one with a message, by the tests of `moves`
 --     by_done, by_going                          the turn that a move's numbers stand for
 --     held_goes                                  a half-cycle that is not refused goes on or says DONE
 --     send_promise, load_promise, turn_promise   what each answer reports, by its causes
 --     stays_station                              StaysStation
+use Rattle.std.specs.Prelude.{Result, Ok, Err, Option, Some, None, is_ok}
 use mathlib.Core.Path.{◌≡◌, refl, sym, ap, ◌∙◌}
 use mathlib.Core.Bool.{Bool, true, false, or-false, or-true}
 use mathlib.Core.List.{[], ◌∷◌}
@@ -28,36 +29,40 @@ use Rattle.burst.specs.Frames.{burst_of, burst_length}
 use Rattle.burst.proofs.Writing.{frame_of-bits}
 use Rattle.station.specs.Stations.{empty_station, loaded, draw_ok, station_ok, load_of, load_causes, load_report, held_sends, sends_of, send_of}
 use Rattle.station.specs.Stations.{send_causes, send_report, sends_on, held_moves, turn_causes, turn_of, is_done, turn_report, turn_by, StaysStation}
-use Rattle.station.specs.declared.Held.{Held}
-use Rattle.station.specs.declared.Held.TheVariants.{Empty, Holds}
 use Rattle.station.specs.declared.Loading.{Loading}
 use Rattle.station.specs.declared.Move.{Move}
-use Rattle.station.specs.declared.SendAnswer.{SendAnswer}
-use Rattle.station.specs.declared.SendAnswer.TheVariants as send
 use Rattle.station.specs.declared.Station.{Station}
 use Rattle.station.specs.declared.Turn.{Turn}
-use Rattle.station.specs.declared.TurnAnswer.TheVariants as turn
+use Rattle.station.specs.declared.Turned.TheVariants as turn
 use Rattle.station.proofs.SendLaws.{no_fault}
 use Rattle.station.proofs.StateLaws.{Fine, fine_station, station_fine}
 
 -- ---- what `sends` tells
 
 module _ (s : Station) where
-  pub sends_told : (h : ℕ) → send_of s ≡ send.Sends h → (station_ok s ≡ true) × (sends_of s ≡ h)
+  pub sends_told : (h : ℕ) → send_of s ≡ Ok h → (station_ok s ≡ true) × (sends_of s ≡ h)
   unfolding send_of judged
   sends_told h e = go (station_ok s) e
     where
-      go : (ok : Bool) → pick ok (send.Sends (sends_of s)) (send.Refused refusal.State) ≡ send.Sends h → (ok ≡ true) × (sends_of s ≡ h)
+      go : (ok : Bool) → pick ok (Ok (sends_of s)) (Err refusal.State) ≡ Ok h → (ok ≡ true) × (sends_of s ≡ h)
       go true e = (refl, cc)
       go false e = (cc, cc)
 
-  pub refuses_told : (why : Refusal) → send_of s ≡ send.Refused why → station_ok s ≡ false
+  pub refuses_told : (why : Refusal) → send_of s ≡ Err why → station_ok s ≡ false
   unfolding send_of judged
   refuses_told why e = go (station_ok s) e
     where
-      go : (ok : Bool) → pick ok (send.Sends (sends_of s)) (send.Refused refusal.State) ≡ send.Refused why → ok ≡ false
+      go : (ok : Bool) → pick ok (Ok (sends_of s)) (Err refusal.State) ≡ Err why → ok ≡ false
       go true e = cc
       go false e = refl
+
+  pub ok_told : is_ok (send_of s) ≡ station_ok s
+  unfolding send_of judged
+  ok_told = go (station_ok s)
+    where
+      go : (ok : Bool) → is_ok {T = ℕ} (pick ok (Ok (sends_of s)) (Err refusal.State)) ≡ ok
+      go true = refl
+      go false = refl
 
 -- ---- one half-cycle of a judged station
 
@@ -71,26 +76,26 @@ pub record Movable (s : Station) (sent heard draw : ℕ) : Type 0 where
 
 -- one with a message that goes on
 abbrev going : Station → Turn
-going s = record { answer = turn.Going; next = s }
+going s = record { answer = Ok turn.Going; next = s }
 
 module _ {s : Station} {sent heard draw : ℕ} (r : Movable s sent heard draw) where
   turn_moves : turn_of s heard draw ≡ held_moves s.held s heard draw
   unfolding turn_of judged
   turn_moves = rw (le-leb heard 1 r.half, r.ok, r.drawn, r.is, no_fault sent heard r.kept)
 
-  pub turn_empty : s.held ≡ Empty → turn_of s heard draw ≡ going s
-  turn_empty e = turn_moves ∙ ap (λ (h : Held). held_moves h s heard draw) e
+  pub turn_empty : s.held ≡ None → turn_of s heard draw ≡ going s
+  turn_empty e = turn_moves ∙ ap (λ (h : Option Message). held_moves h s heard draw) e
 
-  module _ {m : Message} (e : s.held ≡ Holds m) where
-    turn_holds : turn_of s heard draw ≡ held_moves (Holds m) s heard draw
-    turn_holds = turn_moves ∙ ap (λ (h : Held). held_moves h s heard draw) e
+  module _ {m : Message} (e : s.held ≡ Some m) where
+    turn_holds : turn_of s heard draw ≡ held_moves (Some m) s heard draw
+    turn_holds = turn_moves ∙ ap (λ (h : Option Message). held_moves h s heard draw) e
 
     found : Fine m s
     found = fine_station m s e r.ok
 
-    held_sends_lem : held_sends (Holds m) s.wait s.count s.place ≡ sent
+    held_sends_lem : held_sends (Some m) s.wait s.count s.place ≡ sent
     unfolding sends_of
-    held_sends_lem = ap (λ (h : Held). held_sends h s.wait s.count s.place) (sym e) ∙ r.is
+    held_sends_lem = ap (λ (h : Option Message). held_sends h s.wait s.count s.place) (sym e) ∙ r.is
 
     -- one that waits sends 0
     waits_clear : s.count < s.wait → sent ≡ 0
@@ -111,7 +116,7 @@ module _ {s : Station} {sent heard draw : ℕ} (r : Movable s sent heard draw) w
     pub turn_aborts : (sent ≡ heard → ⊥) → turn_of s heard draw ≡ going (loaded m draw)
     turn_aborts n = turn_holds ∙ go (dec_lt s.count s.wait)
       where
-        go : Dec (s.count < s.wait) → held_moves (Holds m) s heard draw ≡ going (loaded m draw)
+        go : Dec (s.count < s.wait) → held_moves (Some m) s heard draw ≡ going (loaded m draw)
         go (yes l) =
             let one : heard ≡ 1 = omega (arith, r.half, r.kept) in
             rw (ne_eqb s.count s.wait (λ q. omega arith), eq-eqb heard 1 one)
@@ -121,20 +126,20 @@ module _ {s : Station} {sent heard draw : ℕ} (r : Movable s sent heard draw) w
 
     module _ (same : sent ≡ heard) where
       pub turn_counts : s.count < s.wait
-          → turn_of s heard draw ≡ going (record { held = Holds m; wait = s.wait; count = s.count + 1; place = s.place })
+          → turn_of s heard draw ≡ going (record { held = Some m; wait = s.wait; count = s.count + 1; place = s.place })
       turn_counts l =
           let clear = waits_clear l in
           turn_holds
           ∙ rw (ne_eqb s.count s.wait (λ q. omega arith), ne_eqb heard 1 (λ q. omega arith))
-          (ap (λ (p : ℕ). going (record { held = Holds m; wait = s.wait; count = s.count + 1; place = p })) (sym (unsent l)))
+          (ap (λ (p : ℕ). going (record { held = Some m; wait = s.wait; count = s.count + 1; place = p })) (sym (unsent l)))
 
       pub turn_goes : s.wait ≤ s.count → s.place + 1 < burst_length m
-          → turn_of s heard draw ≡ going (record { held = Holds m; wait = s.wait; count = s.count; place = s.place + 1 })
+          → turn_of s heard draw ≡ going (record { held = Some m; wait = s.wait; count = s.count; place = s.place + 1 })
       turn_goes l k =
           turn_holds
           ∙ rw (level l, eq-eqb (get_or (burst_of m) s.place 0) heard (sends_burst l ∙ same), ne_eqb (s.place + 1) (burst_length m) (λ q. omega arith))
 
-      pub turn_ends : s.wait ≤ s.count → burst_length m ≤ s.place + 1 → turn_of s heard draw ≡ record { answer = turn.Done; next = empty_station }
+      pub turn_ends : s.wait ≤ s.count → burst_length m ≤ s.place + 1 → turn_of s heard draw ≡ record { answer = Ok turn.Done; next = empty_station }
       turn_ends l k =
           let last : s.place + 1 ≡ burst_length m = omega (arith, found.within) in
           turn_holds
@@ -142,16 +147,16 @@ module _ {s : Station} {sent heard draw : ℕ} (r : Movable s sent heard draw) w
 
 -- ---- the turn that a move's numbers stand for
 
-module _ {t : Turn} (h : Held) (v : Move) (by : t ≡ turn_by h v) where
-  pub by_done : v.done ≡ true → t ≡ record { answer = turn.Done; next = empty_station }
-  by_done d = by ∙ rw d
+module _ {t : Turn} (h : Option Message) {moved : Option Move} (by : t ≡ turn_by h moved) where
+  pub by_done : moved ≡ None → t ≡ record { answer = Ok turn.Done; next = empty_station }
+  by_done e = by ∙ rw e
 
-  pub by_going : v.done ≡ false → t ≡ going (record { held = h; wait = v.wait; count = v.count; place = v.place })
-  by_going d = by ∙ rw d
+  pub by_going : (v : Move) → moved ≡ Some v → t ≡ going (record { held = h; wait = v.wait; count = v.count; place = v.place })
+  by_going v e = by ∙ rw e
 
 -- ---- the promises of each routine, from its answer
 
-pub send_promise : {o : SendAnswer} (s : Station) → o ≡ send_of s
+pub send_promise : {o : Result ℕ Refusal} (s : Station) → o ≡ send_of s
     → (o ≡ send_of s) × (send_report o ≡ judged (send_causes s) (reports (sends_of s ∷ [])) refuses)
 unfolding send_of
 send_promise s e = (e, ap send_report e ∙ judged_map send_report _ _ (send_causes s))
@@ -168,18 +173,18 @@ abbrev Moved : Turn → Type 0
 Moved o = turn_report o.answer ≡ reports (is_done o.answer ∷ [])
 
 -- a half-cycle that is not refused goes on or says DONE
-module _ (P : Turn → Type 0) (going : (next : Station) → P (record { answer = turn.Going; next = next }))
-    (done : (next : Station) → P (record { answer = turn.Done; next = next })) where
-  pub held_goes : (h : Held) (s : Station) (heard draw : ℕ) → P (held_moves h s heard draw)
-  held_goes Empty s heard draw = going s
-  held_goes (Holds m) s heard draw =
+module _ (P : Turn → Type 0) (going : (next : Station) → P (record { answer = Ok turn.Going; next = next }))
+    (done : (next : Station) → P (record { answer = Ok turn.Done; next = next })) where
+  pub held_goes : (h : Option Message) (s : Station) (heard draw : ℕ) → P (held_moves h s heard draw)
+  held_goes None s heard draw = going s
+  held_goes (Some m) s heard draw =
       pick_both P (eqb s.count s.wait) _ _
       (pick_both P (eqb (get_or (burst_of m) s.place 0) heard) _ _
       (pick_both P (eqb (s.place + 1) (burst_length m)) _ _ (done _) (going _))
       (going _))
       (going _)
 
-held_reports : (h : Held) (s : Station) (heard draw : ℕ) → Moved (held_moves h s heard draw)
+held_reports : (h : Option Message) (s : Station) (heard draw : ℕ) → Moved (held_moves h s heard draw)
 held_reports = held_goes Moved (λ next. refl) (λ next. refl)
 
 pub turn_promise : {o : Turn} (s : Station) (heard draw : ℕ) → o ≡ turn_of s heard draw
@@ -204,7 +209,7 @@ loaded_ok m draw valid drawn =
 
 module _ (m : Message) (s : Station) (f : Fine m s) (heard draw : ℕ) (drawn : draw_ok draw ≡ true) where
   abbrev With : ℕ → ℕ → Station
-  With count place = record { held = Holds m; wait = s.wait; count = count; place = place }
+  With count place = record { held = Some m; wait = s.wait; count = count; place = place }
 
   fresh : station_ok (loaded m draw) ≡ true
   fresh = loaded_ok m draw f.valid drawn
@@ -226,13 +231,13 @@ module _ (m : Message) (s : Station) (f : Fine m s) (heard draw : ℕ) (drawn : 
             early = rw (le-leb s.wait s.count (omega arith)) (or-true (eqb (s.place + 1) 0));
           }))
 
-  holds_stays : station_ok (held_moves (Holds m) s heard draw).next ≡ true
+  holds_stays : station_ok (held_moves (Some m) s heard draw).next ≡ true
   holds_stays = go (ℕ_discrete s.count s.wait)
     where
       P : Turn → Type 0
       P t = station_ok t.next ≡ true
 
-      go : Dec (s.count ≡ s.wait) → P (held_moves (Holds m) s heard draw)
+      go : Dec (s.count ≡ s.wait) → P (held_moves (Some m) s heard draw)
       go (yes e) =
           rw (eq-eqb s.count s.wait e)
           (pick_both P (eqb (get_or (burst_of m) s.place 0) heard) _ _ (sends_on_lem e) fresh)
@@ -264,6 +269,6 @@ stays_station = record { empty = refl; load = loads; turn = turns }
         (λ none. let a = none_stops _ _ _ none in let b = none_stops _ _ _ a.1 in go s.held refl (none_stops _ _ _ b.1).0)
         (λ why. ok)
       where
-        go : (h : Held) → s.held ≡ h → draw_ok draw ≡ true → station_ok (held_moves h s heard draw).next ≡ true
-        go Empty e drawn = ok
-        go (Holds m) e drawn = holds_stays m s (fine_station m s e ok) heard draw drawn
+        go : (h : Option Message) → s.held ≡ h → draw_ok draw ≡ true → station_ok (held_moves h s heard draw).next ≡ true
+        go None e drawn = ok
+        go (Some m) e drawn = holds_stays m s (fine_station m s e ok) heard draw drawn

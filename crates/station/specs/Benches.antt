@@ -1,13 +1,11 @@
 -- The bench (01, 'Station and bench', 'Numbers given back'): one half-cycle of any number of stations on one line, and 01's bench of at most sixteen.
-use Rattle.std.specs.Prelude.{ℕ, max, ◌≡◌, Bool, true, false, ◌&&◌, eqb, leb, length, take, drop, replicate}
+use Rattle.std.specs.Prelude.{ℕ, max, ◌≡◌, Bool, true, false, ◌&&◌, eqb, leb, length, take, drop, replicate, Result, Ok, Err}
 use mathlib.Core.List.{List, [], ◌∷◌, ◌++◌, zip_with}
 use Rattle.ground.specs.Refusals.{Report, reports, refuses, Cause, unless, judged}
 use Rattle.ground.specs.declared.Refusal.{Refusal}
 use Rattle.ground.specs.declared.Refusal.TheVariants as refusal
 use Rattle.station.specs.Stations.{station_ok, draw_ok, sends_of, turn_of, is_done}
 use Rattle.station.specs.declared.Station.{Station}
-use Rattle.station.specs.declared.bench.BenchAnswer.{BenchAnswer}
-use Rattle.station.specs.declared.bench.BenchAnswer.TheVariants.{Line, Refused}
 use Rattle.station.specs.declared.bench.BenchTurn.{BenchTurn}
 
 -- ---- one half-cycle of the stations of a list, however many
@@ -29,7 +27,7 @@ done_all line stations draws = zip_with (λ (s : Station) (d : ℕ). is_done (tu
 unfoldable pub turn_all : List Station → List ℕ → BenchTurn
 turn_all stations draws =
     let line : ℕ = line_of stations in
-    record { answer = Line line; done = done_all line stations draws; slots = move_all line stations draws }
+    record { answer = Ok line; done = done_all line stations draws; slots = move_all line stations draws }
 
 -- ---- a bench of n stations, where at most so many are allowed
 
@@ -53,7 +51,7 @@ bench_causes most n stations draws =
 
 -- a refused call: all as it was and none DONE
 abbrev pub bench_refused : List Station → Refusal → BenchTurn
-bench_refused stations why = record { answer = Refused why; done = replicate (length stations) false; slots = stations }
+bench_refused stations why = record { answer = Err why; done = replicate (length stations) false; slots = stations }
 
 unfoldable pub bench_on : ℕ → ℕ → List Station → List ℕ → BenchTurn
 bench_on most n stations draws = judged (bench_causes most n stations draws) (turn_all stations draws) (bench_refused stations)
@@ -76,9 +74,9 @@ unfoldable pub bench_of : ℕ → List Station → List ℕ → BenchTurn
 bench_of n slots draws = beside (drop n slots) (bench_on most_stations n (take n slots) (take n draws))
 
 -- 01's number, and the line's half-cycle
-abbrev pub bench_report : BenchAnswer → Report ℕ
-bench_report (Line h) = reports (h ∷ [])
-bench_report (Refused why) = refuses why
+abbrev pub bench_report : Result ℕ Refusal → Report ℕ
+bench_report (Ok h) = reports (h ∷ [])
+bench_report (Err why) = refuses why
 
 -- ---- what holds of every call: proofs/BenchCases.antt
 

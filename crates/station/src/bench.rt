@@ -4,24 +4,16 @@ ghost use Rattle.ground.specs.Refusals.{judged, reports, refuses, refusal_number
 ghost use Rattle.station.specs.Stations.{sends_of};
 ghost use Rattle.station.specs.Benches.{line_of, stations_ok, draws_ok, turn_all, bench_refused, slot_causes, beside, bench_of, bench_report};
 
-use crate::{Held, SendAnswer, Station, draw_ok, empty, idle, moves, sends};
+use crate::{Station, draw_ok, empty, idle, moves, sends};
 use ground::Refusal;
 
 // How many stations a bench has at most.
 pub const SLOTS: usize = 16;
 
-// What one half-cycle of a bench answers.
-#[derive(Clone, Copy)]
-pub enum BenchAnswer {
-    // The line's half-cycle.
-    Line(u8),
-    Refused(Refusal),
-}
-
 // The answer, which stations are DONE, and the slots as the call leaves them.
 #[derive(Clone, Copy)]
 pub struct BenchTurn {
-    pub answer: BenchAnswer,
+    pub answer: Result<u8, Refusal>,
     pub done: [bool; 16],
     pub slots: [Station; 16],
 }
@@ -31,9 +23,9 @@ fn refused(why: Refusal, slots: [Station; 16]) -> BenchTurn
     ensures { result ≡ bench_refused slots why }
 {
     BenchTurn {
-        answer: BenchAnswer::Refused(why),
+        answer: Err(why),
         done: [false; 16],
-        slots: slots,
+        slots,
     }
 }
 
@@ -42,14 +34,7 @@ fn draws_fine(draws: [u8; 16], n: usize) -> bool
     requires { n ≤ length draws }
     ensures { result ≡ draws_ok (take n draws) }
 {
-    let mut d = 0;
-    while d < n {
-        if !draw_ok(draws[d]) {
-            return false;
-        }
-        d += 1;
-    }
-    true
+    draws[..n].iter().all(|&d| draw_ok(d))
 }
 
 // Moves the first n stations, judged before, by the line's half-cycle and by what each of them sent.
@@ -63,29 +48,25 @@ fn move_all(slots: [Station; 16], n: usize, draws: [u8; 16], line: u8, sent: [u8
 {
     let mut after = slots;
     let mut done = [false; 16];
-    let mut i = 0;
-    while i < n {
+    for i in 0..n {
         let s = after[i];
-        let held = s.held;
-        match held {
-            Held::Empty => {}
-            Held::Holds(m) => {
-                let v = moves(m, s, sent[i], line, draws[i]);
-                if v.done {
+        if let Some(m) = s.held {
+            match moves(m, s, sent[i], line, draws[i]) {
+                None => {
                     after[i] = empty();
                     done[i] = true;
-                } else {
+                }
+                Some(v) => {
                     after[i].wait = v.wait;
                     after[i].count = v.count;
                     after[i].place = v.place;
                 }
             }
         }
-        i += 1;
     }
     BenchTurn {
-        answer: BenchAnswer::Line(line),
-        done: done,
+        answer: Ok(line),
+        done,
         slots: after,
     }
 }
@@ -101,20 +82,18 @@ pub fn half_cycle(slots: [Station; 16], n: usize, draws: [u8; 16]) -> BenchTurn
     }
     let mut line: u8 = 0;
     let mut sent = [0; 16];
-    let mut k = 0;
-    while k < n {
+    for k in 0..n {
         if !idle(slots[k]) {
             match sends(slots[k]) {
-                SendAnswer::Refused(_) => {
+                Err(_) => {
                     return refused(Refusal::State, slots);
                 }
-                SendAnswer::Sends(half) => {
+                Ok(half) => {
                     sent[k] = half;
                     line = line | half;
                 }
             }
         }
-        k += 1;
     }
     if !draws_fine(draws, n) {
         return refused(Refusal::Draw, slots);

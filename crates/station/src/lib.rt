@@ -2,30 +2,23 @@
 
 #![tactic(auto)]
 
-ghost use Rattle.std.specs.Prelude.{◌≡◌, true, ◌∷◌, [], ◌+◌, ◌<◌, ◌≤◌, get_or};
+ghost use Rattle.std.specs.Prelude.{◌≡◌, true, ◌∷◌, [], ◌+◌, ◌<◌, ◌≤◌, get_or, Some};
 ghost use Rattle.ground.specs.Refusals.{judged, reports, refuses, refusal_number};
 ghost use Rattle.message.specs.Messages.{message_ok};
 ghost use Rattle.burst.specs.Frames.{bits_of, pairs_of, burst_of, burst_length};
-ghost use Rattle.station.specs.declared.Held.TheVariants.{Holds};
 ghost use Rattle.station.specs.Stations.{empty_station, draw_ok, station_ok, load_of, load_report, load_causes, sends_of, send_of, send_report, send_causes};
 ghost use Rattle.station.specs.Stations.{idle_of, turn_by, held_moves, is_done, turn_of, turn_report, turn_causes};
 
 use ground::Refusal;
 use message::Message;
-use message::word::{WordAnswer, word_of};
+use message::word::word_of;
 
 pub mod bench;
-
-#[derive(Clone, Copy)]
-pub enum Held {
-    Empty,
-    Holds(Message),
-}
 
 // A station, handed in and back by value.
 #[derive(Clone, Copy)]
 pub struct Station {
-    pub held: Held,
+    pub held: Option<Message>,
     // The wait drawn, 8 to 10.
     pub wait: u8,
     // Clear half-cycles in a row, up to the wait.
@@ -34,56 +27,42 @@ pub struct Station {
     pub place: u8,
 }
 
-// What loading answers.
-#[derive(Clone, Copy)]
-pub enum LoadAnswer {
-    Loaded,
-    Refused(Refusal),
-}
-
+// What loading answers, and the station that it leaves: on a refusal too, as `load_of` says, and so below `turn_of` and `bench_of`.
 #[derive(Clone, Copy)]
 pub struct Loading {
-    pub answer: LoadAnswer,
+    pub answer: Result<(), Refusal>,
     pub next: Station,
 }
 
-// What a station sends in this half-cycle.
+// Whether a station has sent the last half-cycle of its message, and says DONE.
 #[derive(Clone, Copy)]
-pub enum SendAnswer {
-    Sends(u8),
-    Refused(Refusal),
-}
-
-// What one half-cycle of a station answers.
-#[derive(Clone, Copy)]
-pub enum TurnAnswer {
+pub enum Turned {
     Going,
     Done,
-    Refused(Refusal),
 }
 
+// What one half-cycle of a station answers, and the station that it leaves.
 #[derive(Clone, Copy)]
 pub struct Turn {
-    pub answer: TurnAnswer,
+    pub answer: Result<Turned, Refusal>,
     pub next: Station,
 }
 
-// The numbers of a station with a message after a half-cycle. Where it is done it has sent its whole burst, and is empty.
+// The numbers of a station that still has its message after a half-cycle.
 #[derive(Clone, Copy)]
 pub(crate) struct Move {
-    done: bool,
     wait: u8,
     count: u8,
     place: u8,
 }
 
 // A station that has counted nothing and sent nothing.
-fn at_start(held: Held, wait: u8) -> Station
+fn at_start(held: Option<Message>, wait: u8) -> Station
     ensures { result ≡ record { held = held; wait = wait; count = 0; place = 0 } }
 {
     Station {
-        held: held,
-        wait: wait,
+        held,
+        wait,
         count: 0,
         place: 0,
     }
@@ -93,7 +72,7 @@ fn at_start(held: Held, wait: u8) -> Station
 pub fn empty() -> Station
     ensures { result ≡ empty_station }
 {
-    at_start(Held::Empty, 8)
+    at_start(None, 8)
 }
 
 // Whether a draw is 8 to 10.
@@ -108,17 +87,8 @@ fn burst_length(m: Message) -> u8
     ensures { result ≡ burst_length m }
 {
     match m {
-        Message::Address { house: _, unit: _ } => 44,
-        Message::Function {
-            house: _,
-            function: _,
-        } => 44,
-        Message::Extended {
-            house: _,
-            unit: _,
-            data: _,
-            command: _,
-        } => 124,
+        Message::Address { .. } | Message::Function { .. } => 44,
+        Message::Extended { .. } => 124,
     }
 }
 
@@ -148,8 +118,8 @@ fn half_at(m: Message, place: u8) -> u8
     ensures { result ≡ get_or (burst_of m) place 0 }
 {
     match word_of(m) {
-        WordAnswer::Refused(_) => 0,
-        WordAnswer::Word(word) => {
+        Err(_) => 0,
+        Ok(word) => {
             let frame = 4 + (word.count + word.count);
             let mut at = place as u32;
             if frame <= at {
@@ -164,31 +134,28 @@ fn half_at(m: Message, place: u8) -> u8
 pub(crate) fn idle(s: Station) -> bool
     ensures { result ≡ idle_of s }
 {
-    let held = s.held;
-    match held {
-        Held::Empty => (s.wait == 8) & ((s.count == 0) & (s.place == 0)),
-        Held::Holds(m) => draw_ok(s.wait)
-            & ((s.count < s.wait) & ((s.place == 0) & message::valid(m))),
+    match s.held {
+        None => (s.wait == 8) & ((s.count == 0) & (s.place == 0)),
+        Some(m) => draw_ok(s.wait) & ((s.count < s.wait) & ((s.place == 0) & message::valid(m))),
     }
 }
 
 // What a station sends in this half-cycle: 0 where it is idle, else it holds a message and its count has come to its wait.
-pub fn sends(s: Station) -> SendAnswer
+pub fn sends(s: Station) -> Result<u8, Refusal>
     ensures answer { result ≡ send_of s }
     ensures report { send_report result ≡ judged (send_causes s) (reports (sends_of s ∷ [])) refuses }
 {
     if idle(s) {
-        return SendAnswer::Sends(0);
+        return Ok(0);
     }
-    let held = s.held;
-    match held {
-        Held::Empty => SendAnswer::Refused(Refusal::State),
-        Held::Holds(m) => {
+    match s.held {
+        None => Err(Refusal::State),
+        Some(m) => {
             let sane = draw_ok(s.wait) & message::valid(m);
             if sane & ((s.count == s.wait) & (s.place < burst_length(m))) {
-                return SendAnswer::Sends(half_at(m, s.place));
+                return Ok(half_at(m, s.place));
             }
-            SendAnswer::Refused(Refusal::State)
+            Err(Refusal::State)
         }
     }
 }
@@ -200,30 +167,29 @@ pub fn load(s: Station, m: Message, draw: u8) -> Loading
 {
     if !message::valid(m) {
         return Loading {
-            answer: LoadAnswer::Refused(Refusal::Message),
+            answer: Err(Refusal::Message),
             next: s,
         };
     }
     if !station_ok(s) {
         return Loading {
-            answer: LoadAnswer::Refused(Refusal::State),
+            answer: Err(Refusal::State),
             next: s,
         };
     }
     if !draw_ok(draw) {
         return Loading {
-            answer: LoadAnswer::Refused(Refusal::Draw),
+            answer: Err(Refusal::Draw),
             next: s,
         };
     }
-    let held = s.held;
-    match held {
-        Held::Empty => Loading {
-            answer: LoadAnswer::Loaded,
-            next: at_start(Held::Holds(m), draw),
+    match s.held {
+        None => Loading {
+            answer: Ok(()),
+            next: at_start(Some(m), draw),
         },
-        Held::Holds(_) => Loading {
-            answer: LoadAnswer::Refused(Refusal::Busy),
+        Some(_) => Loading {
+            answer: Err(Refusal::Busy),
             next: s,
         },
     }
@@ -233,51 +199,40 @@ pub fn load(s: Station, m: Message, draw: u8) -> Loading
 fn station_ok(s: Station) -> bool
     ensures { result ≡ station_ok s }
 {
-    match sends(s) {
-        SendAnswer::Sends(_) => true,
-        SendAnswer::Refused(_) => false,
-    }
+    sends(s).is_ok()
 }
 
 // The numbers of a judged station with a message after a half-cycle in which it sent, and heard: a bench judges all of its stations
-// before it moves one.
-pub(crate) fn moves(m: Message, s: Station, sent: u8, heard: u8, draw: u8) -> Move
-    requires held_value { s.held ≡ Holds m }
+// before it moves one. None where it has sent its whole burst: it is then empty, and says DONE.
+pub(crate) fn moves(m: Message, s: Station, sent: u8, heard: u8, draw: u8) -> Option<Move>
+    requires held_value { s.held ≡ Some m }
     requires s_value { (station_ok s ≡ true) × (draw_ok draw ≡ true) }
     requires s_value_2 { sends_of s ≡ sent }
     requires sent_le_heard { (sent ≤ heard) × (heard ≤ 1) }
-    ensures { turn_of s heard draw ≡ turn_by (Holds m) result }
+    ensures { turn_of s heard draw ≡ turn_by (Some m) result }
 {
     if sent != heard {
-        return Move {
-            done: false,
+        return Some(Move {
             wait: draw,
             count: 0,
             place: 0,
-        };
+        });
     }
     if s.count < s.wait {
-        return Move {
-            done: false,
+        return Some(Move {
             wait: s.wait,
             count: s.count + 1,
             place: s.place,
-        };
+        });
     }
     if s.place < burst_length(m) - 1 {
-        return Move {
-            done: false,
+        return Some(Move {
             wait: s.wait,
             count: s.count,
             place: s.place + 1,
-        };
+        });
     }
-    Move {
-        done: true,
-        wait: 8,
-        count: 0,
-        place: 0,
-    }
+    None
 }
 
 // One half-cycle of a station, with what it heard and a draw.
@@ -288,25 +243,25 @@ pub fn advance(s: Station, heard: u8, draw: u8) -> Turn
 {
     if 1 < heard {
         return Turn {
-            answer: TurnAnswer::Refused(Refusal::Half),
+            answer: Err(Refusal::Half),
             next: s,
         };
     }
     match sends(s) {
-        SendAnswer::Refused(_) => Turn {
-            answer: TurnAnswer::Refused(Refusal::State),
+        Err(_) => Turn {
+            answer: Err(Refusal::State),
             next: s,
         },
-        SendAnswer::Sends(sent) => {
+        Ok(sent) => {
             if !draw_ok(draw) {
                 return Turn {
-                    answer: TurnAnswer::Refused(Refusal::Draw),
+                    answer: Err(Refusal::Draw),
                     next: s,
                 };
             }
             if heard < sent {
                 return Turn {
-                    answer: TurnAnswer::Refused(Refusal::Fault),
+                    answer: Err(Refusal::Fault),
                     next: s,
                 };
             }
@@ -322,29 +277,25 @@ fn moved(s: Station, sent: u8, heard: u8, draw: u8) -> Turn
     requires sent_le_heard { (sent ≤ heard) × (heard ≤ 1) }
     ensures { result ≡ turn_of s heard draw }
 {
-    let held = s.held;
-    match held {
-        Held::Empty => Turn {
-            answer: TurnAnswer::Going,
+    match s.held {
+        None => Turn {
+            answer: Ok(Turned::Going),
             next: s,
         },
-        Held::Holds(m) => {
-            let v = moves(m, s, sent, heard, draw);
-            if v.done {
-                return Turn {
-                    answer: TurnAnswer::Done,
-                    next: empty(),
-                };
-            }
-            Turn {
-                answer: TurnAnswer::Going,
+        Some(m) => match moves(m, s, sent, heard, draw) {
+            None => Turn {
+                answer: Ok(Turned::Done),
+                next: empty(),
+            },
+            Some(v) => Turn {
+                answer: Ok(Turned::Going),
                 next: Station {
-                    held: held,
+                    held: s.held,
                     wait: v.wait,
                     count: v.count,
                     place: v.place,
                 },
-            }
-        }
+            },
+        },
     }
 }

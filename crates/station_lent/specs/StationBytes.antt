@@ -1,24 +1,15 @@
 -- A station as eight bytes, and its routines on lent bytes (01, 'Station and bench', 'Numbers given back').
-use Rattle.std.specs.Prelude.{ℕ, ◌≡◌, true, false, List, [], ◌∷◌, ◌++◌, eqb, length, get_or}
+use Rattle.std.specs.Prelude.{ℕ, ◌≡◌, true, false, List, [], ◌∷◌, ◌++◌, eqb, length, get_or, Result, Ok, Err, Option, None, ⊤}
 use Rattle.ground.specs.Choice.{pick}
 use Rattle.ground.specs.Refusals.{Cause, unless, judged, number_given, lowest}
+use Rattle.ground.specs.declared.Refusal.{Refusal}
 use Rattle.ground.specs.declared.Refusal.TheVariants as refusal
-use Rattle.ground.specs.declared.CountAnswer.{CountAnswer}
-use Rattle.ground.specs.declared.CountAnswer.TheVariants.{Done, Refused}
 use Rattle.message.specs.declared.Message.{Message}
-use Rattle.wire.specs.Messages.{message_bytes, none_bytes, kept_in}
-use Rattle.wire.specs.declared.KeptRead.{KeptRead}
-use Rattle.wire.specs.declared.KeptRead.TheVariants as kept
+use Rattle.wire.specs.Messages.{kept_in, kept_bytes}
 use Rattle.station.specs.Stations.{empty_station, station_ok, loaded, load_causes, load_of, send_causes, sends_of, send_of, held_moves, is_done, turn_causes, turn_of}
-use Rattle.station.specs.declared.Held.{Held}
-use Rattle.station.specs.declared.Held.TheVariants.{Empty, Holds}
-use Rattle.station.specs.declared.LoadAnswer.{LoadAnswer}
-use Rattle.station.specs.declared.LoadAnswer.TheVariants as load
-use Rattle.station.specs.declared.SendAnswer.{SendAnswer}
-use Rattle.station.specs.declared.SendAnswer.TheVariants as send
 use Rattle.station.specs.declared.Station.{Station}
-use Rattle.station.specs.declared.TurnAnswer.{TurnAnswer}
-use Rattle.station.specs.declared.TurnAnswer.TheVariants as turn
+use Rattle.station.specs.declared.Turned.{Turned}
+use Rattle.station.specs.declared.Turned.TheVariants as turn
 
 -- ---- a station: "at most one message" in five bytes, then "a wait drawn", "its count", "its place", a byte each
 
@@ -27,25 +18,23 @@ STATION_BYTES = 8
 
 -- handed on for bytes that hold no station: an empty one with wait 0, which each routine refuses by 6 in its own order
 abbrev pub no_station : Station
-no_station = record { held = Empty; wait = 0; count = 0; place = 0 }
+no_station = record { held = None; wait = 0; count = 0; place = 0 }
 
 -- a station by its message and its last three bytes
-abbrev pub station_with : Held → List ℕ → Station
+abbrev pub station_with : Option Message → List ℕ → Station
 station_with h s = record { held = h; wait = get_or s 5 0; count = get_or s 6 0; place = get_or s 7 0 }
 
-abbrev pub station_by : KeptRead → List ℕ → Station
-station_by kept.Nothing s = station_with Empty s
-station_by (kept.Message m) s = station_with (Holds m) s
-station_by (kept.Refused why) s = no_station
+abbrev pub station_by : Result (Option Message) Refusal → List ℕ → Station
+station_by (Ok h) s = station_with h s
+station_by (Err why) s = no_station
 
 -- the station that bytes hold: eight of them, of which the first five are 0 or a message's
 unfoldable pub station_in : List ℕ → Station
 station_in s = pick (eqb (length s) STATION_BYTES) (station_by (kept_in s) s) no_station
 
 -- the bytes of a station
-abbrev pub held_bytes : Held → List ℕ
-held_bytes Empty = none_bytes
-held_bytes (Holds m) = message_bytes m
+abbrev pub held_bytes : Option Message → List ℕ
+held_bytes held = kept_bytes held
 
 unfoldable pub station_bytes : Station → List ℕ
 station_bytes s = held_bytes s.held ++ (s.wait ∷ s.count ∷ s.place ∷ [])
@@ -56,8 +45,8 @@ station_bytes s = held_bytes s.held ++ (s.wait ∷ s.count ∷ s.place ∷ [])
 abbrev pub empty_causes : List ℕ → List Cause
 empty_causes state = unless (eqb (length state) STATION_BYTES) refusal.State ∷ []
 
-unfoldable pub empty_answer : List ℕ → CountAnswer
-empty_answer state = judged (empty_causes state) (Done 0) Refused
+unfoldable pub empty_answer : List ℕ → Result ℕ Refusal
+empty_answer state = judged (empty_causes state) (Ok 0) Err
 
 -- "An empty station has wait 8, count 0, place 0"
 unfoldable pub empty_after : List ℕ → List ℕ
@@ -66,8 +55,8 @@ empty_after state = judged (empty_causes state) (station_bytes empty_station) (�
 -- ---- loading
 
 -- MESSAGE 2, STATE 6, DRAW 7; BUSY 8: "loading a station that holds a message"
-unfoldable pub loaded_answer : List ℕ → Message → ℕ → CountAnswer
-loaded_answer state m draw = judged (load_causes (station_in state) m draw) (Done 0) Refused
+unfoldable pub loaded_answer : List ℕ → Message → ℕ → Result ℕ Refusal
+loaded_answer state m draw = judged (load_causes (station_in state) m draw) (Ok 0) Err
 
 -- "Loading gives it the message, the draw supplied and count 0: it is then fresh."
 unfoldable pub loaded_after : List ℕ → Message → ℕ → List ℕ
@@ -76,8 +65,8 @@ loaded_after state m draw = judged (load_causes (station_in state) m draw) (stat
 -- ---- what it sends
 
 -- STATE 6; "Once the count equals the wait it sends from the next half-cycle": the count is the half-cycle sent
-unfoldable pub sent_answer : List ℕ → CountAnswer
-sent_answer state = judged (send_causes (station_in state)) (Done (sends_of (station_in state))) Refused
+unfoldable pub sent_answer : List ℕ → Result ℕ Refusal
+sent_answer state = judged (send_causes (station_in state)) (Ok (sends_of (station_in state))) Err
 
 -- ---- one half-cycle
 
@@ -86,8 +75,8 @@ abbrev pub done_count : List ℕ → ℕ → ℕ → ℕ
 done_count state heard draw = pick (is_done (held_moves (station_in state).held (station_in state) heard draw).answer) 1 0
 
 -- HALF 5, STATE 6, DRAW 7; FAULT 15: "sent 1, heard 0"
-unfoldable pub turned_answer : List ℕ → ℕ → ℕ → CountAnswer
-turned_answer state heard draw = judged (turn_causes (station_in state) heard draw) (Done (done_count state heard draw)) Refused
+unfoldable pub turned_answer : List ℕ → ℕ → ℕ → Result ℕ Refusal
+turned_answer state heard draw = judged (turn_causes (station_in state) heard draw) (Ok (done_count state heard draw)) Err
 
 -- "Each refusal .. changes nothing lent or handed in."
 unfoldable pub turned_after : List ℕ → ℕ → ℕ → List ℕ
@@ -121,18 +110,18 @@ pub record BytesFollow : Type 0 where
   pub turned : (state : List ℕ) (heard draw : ℕ) → station_in (turned_after state heard draw) ≡ (turn_of (station_in state) heard draw).next
 
 -- what loading, sending and a half-cycle answer as a count: 1 for DONE, and the half-cycle sent
-abbrev pub load_count : LoadAnswer → CountAnswer
-load_count load.Loaded = Done 0
-load_count (load.Refused why) = Refused why
+abbrev pub load_count : Result ⊤ Refusal → Result ℕ Refusal
+load_count (Ok tt) = Ok 0
+load_count (Err why) = Err why
 
-abbrev pub send_count : SendAnswer → CountAnswer
-send_count (send.Sends h) = Done h
-send_count (send.Refused why) = Refused why
+abbrev pub send_count : Result ℕ Refusal → Result ℕ Refusal
+send_count (Ok h) = Ok h
+send_count (Err why) = Err why
 
-abbrev pub turn_count : TurnAnswer → CountAnswer
-turn_count turn.Going = Done 0
-turn_count turn.Done = Done 1
-turn_count (turn.Refused why) = Refused why
+abbrev pub turn_count : Result Turned Refusal → Result ℕ Refusal
+turn_count (Ok turn.Going) = Ok 0
+turn_count (Ok turn.Done) = Ok 1
+turn_count (Err why) = Err why
 
 -- and each answers what that routine answers
 pub record AnswersFollow : Type 0 where

@@ -10,10 +10,10 @@ ghost use Rattle.station_lent.specs.StationBytes.{STATION_BYTES, no_station, sta
 ghost use Rattle.station_lent.specs.StationBytes.{empty_causes, empty_answer, empty_after, loaded_answer, loaded_after};
 ghost use Rattle.station_lent.specs.StationBytes.{sent_answer, done_count, turned_answer, turned_after};
 
-use ground::{CountAnswer, Refusal};
+use ground::Refusal;
 use message::Message;
-use station::{Held, LoadAnswer, SendAnswer, Station, TurnAnswer, advance};
-use wire::{Five, KeptRead, five_none, five_of, kept_from};
+use station::{Station, Turned, advance};
+use wire::{five_kept, kept_from};
 
 // How many bytes a station has.
 const STATION_BYTES: usize = 8;
@@ -23,7 +23,7 @@ fn no_station() -> Station
     ensures { result ≡ no_station }
 {
     Station {
-        held: Held::Empty,
+        held: None,
         wait: 0,
         count: 0,
         place: 0,
@@ -31,12 +31,12 @@ fn no_station() -> Station
 }
 
 // The station that eight bytes hold, by what the first five of them keep.
-fn station_with(held: Held, state: &[u8]) -> Station
+fn station_with(held: Option<Message>, state: &[u8]) -> Station
     requires { length state.now ≡ STATION_BYTES }
     ensures { result ≡ station_with held state.now }
 {
     Station {
-        held: held,
+        held,
         wait: state[5],
         count: state[6],
         place: state[7],
@@ -51,19 +51,8 @@ fn station_in(state: &[u8]) -> Station
         return no_station();
     }
     match kept_from(state[0], state[1], state[2], state[3], state[4]) {
-        KeptRead::Nothing => station_with(Held::Empty, state),
-        KeptRead::Message(m) => station_with(Held::Holds(m), state),
-        KeptRead::Refused(_) => no_station(),
-    }
-}
-
-// The five bytes of the message that a station holds, all 0 where it is empty.
-fn five_held(held: Held) -> Five
-    ensures { listed result ≡ held_bytes held }
-{
-    match held {
-        Held::Empty => five_none(),
-        Held::Holds(m) => five_of(m),
+        Ok(held) => station_with(held, state),
+        Err(_) => no_station(),
     }
 }
 
@@ -72,8 +61,7 @@ fn put_bytes(state: &mut [u8], s: Station)
     requires { length state.old ≡ STATION_BYTES }
     ensures { state.new ≡ station_bytes s }
 {
-    let held = s.held;
-    let five = five_held(held);
+    let five = five_kept(s.held);
     state[0] = five.kind;
     state[1] = five.house;
     state[2] = five.third;
@@ -85,68 +73,53 @@ fn put_bytes(state: &mut [u8], s: Station)
 }
 
 // Makes eight lent bytes an empty station, whatever they held. Refused, it changes nothing.
-pub fn empty(state: &mut [u8]) -> CountAnswer
+pub fn empty(state: &mut [u8]) -> Result<usize, Refusal>
     ensures answer { result ≡ empty_answer state.old }
     ensures report { count_report result ≡ judged (empty_causes state.old) (reports (0 ∷ [])) refuses }
     ensures state { state.new ≡ empty_after state.old }
 {
     if state.len() != STATION_BYTES {
-        return CountAnswer::Refused(Refusal::State);
+        return Err(Refusal::State);
     }
     put_bytes(state, station::empty());
-    CountAnswer::Done(0)
+    Ok(0)
 }
 
 // Gives the station in eight lent bytes a message and a wait. Refused, it changes nothing.
-pub fn load(state: &mut [u8], m: Message, draw: u8) -> CountAnswer
+pub fn load(state: &mut [u8], m: Message, draw: u8) -> Result<usize, Refusal>
     ensures answer { result ≡ loaded_answer state.old m draw }
     ensures report { count_report result ≡ judged (load_causes (station_in state.old) m draw) (reports (0 ∷ [])) refuses }
     ensures state { state.new ≡ loaded_after state.old m draw }
 {
     let loading = station::load(station_in(state), m, draw);
-    let answer = loading.answer;
-    let next = loading.next;
-    match answer {
-        LoadAnswer::Loaded => {
-            put_bytes(state, next);
-            CountAnswer::Done(0)
-        }
-        LoadAnswer::Refused(why) => CountAnswer::Refused(why),
-    }
+    loading.answer?;
+    put_bytes(state, loading.next);
+    Ok(0)
 }
 
 // What the station in eight lent bytes sends in this half-cycle: the count is 0 or 1.
-pub fn sends(state: &[u8]) -> CountAnswer
+pub fn sends(state: &[u8]) -> Result<usize, Refusal>
     ensures answer { result ≡ sent_answer state.now }
     ensures report { count_report result
         ≡ judged (send_causes (station_in state.now)) (reports (sends_of (station_in state.now) ∷ [])) refuses }
 {
-    match station::sends(station_in(state)) {
-        SendAnswer::Sends(half) => CountAnswer::Done(half as usize),
-        SendAnswer::Refused(why) => CountAnswer::Refused(why),
-    }
+    let half = station::sends(station_in(state))?;
+    Ok(half as usize)
 }
 
 // One half-cycle of the station in eight lent bytes, with what it heard and a draw: the count is 1 where it says DONE. Refused, it changes
 // nothing.
-pub fn half_cycle(state: &mut [u8], heard: u8, draw: u8) -> CountAnswer
+pub fn half_cycle(state: &mut [u8], heard: u8, draw: u8) -> Result<usize, Refusal>
     ensures answer { result ≡ turned_answer state.old heard draw }
     ensures report { count_report result
         ≡ judged (turn_causes (station_in state.old) heard draw) (reports (done_count state.old heard draw ∷ [])) refuses }
     ensures state { state.new ≡ turned_after state.old heard draw }
 {
     let turn = advance(station_in(state), heard, draw);
-    let answer = turn.answer;
-    let next = turn.next;
-    match answer {
-        TurnAnswer::Going => {
-            put_bytes(state, next);
-            CountAnswer::Done(0)
-        }
-        TurnAnswer::Done => {
-            put_bytes(state, next);
-            CountAnswer::Done(1)
-        }
-        TurnAnswer::Refused(why) => CountAnswer::Refused(why),
+    let turned = turn.answer?;
+    put_bytes(state, turn.next);
+    match turned {
+        Turned::Going => Ok(0),
+        Turned::Done => Ok(1),
     }
 }

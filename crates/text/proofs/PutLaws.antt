@@ -3,13 +3,15 @@
 --     sets-set        what is stored past a text may be stored first
 --     put_none, put_then    no text; one text and then another
 --     put_as          an equal text
+--     part_put        bytes that are copied over a part of a buffer
 use mathlib.Core.Path.{◌≡◌, refl, sym, ap, subst, ◌∙◌}
-use mathlib.Core.List.{List, [], ◌∷◌, ◌++◌}
+use mathlib.Core.List.{List, [], ◌∷◌, ◌++◌, append_assoc}
 use Prim.Native.Nat.{ℕ, suc, ◌+◌, ◌≤◌}
 use native.Mathlib.Nat.{add-zero, add_assoc}
 use native.Mathlib.Omega.{arith}
-use lib.ListN.{length, set, length-append}
-use lib.Seq.{sets, set_comm}
+use lib.ListN.{length, set, take, drop, length-append}
+use lib.Seq.{sets, set_comm, sets-eq, drop-drop}
+use borrow.Rule.Slice.PartMut.{put_mid}
 use Rattle.ground.proofs.Lists.{sets-append}
 use Rattle.text.specs.Texts.{Put}
 
@@ -33,3 +35,9 @@ put_then {a} {b} {c} {i} {j} {k} {s} {t} p q =
 
 pub put_as : {a b : List ℕ} {i j : ℕ} {s t : List ℕ} → s ≡ t → Put a i s b j → Put a i t b j
 put_as {a} {b} {i} {j} e p = subst (λ (t : List ℕ). Put a i t b j) e p
+
+pub part_put : (a ys : List ℕ) (p k : ℕ) → p + length ys ≤ length a → k ≡ length ys → put_mid p k a ys ≡ sets a p ys
+part_put a ys p k room long =
+    ap (λ (l : List ℕ). take p a ++ (ys ++ l)) (drop-drop k p a ∙ ap (λ (n : ℕ). drop (p + n) a) long)
+    ∙ sym (append_assoc (take p a) ys (drop (p + length ys) a))
+    ∙ sym (sets-eq ys a p room)

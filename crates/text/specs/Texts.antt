@@ -54,6 +54,14 @@ pub record Put (before : List ℕ) (at : ℕ) (text after : List ℕ) (next : �
   pub bytes : after ≡ sets before at text
   pub place : next ≡ at + length text
 
+-- a text before anything is put into it
+abbrev pub blank : Text
+blank = record { bytes = replicate 32 0; length = 0 }
+
+-- bytes are put after those that a text has
+abbrev pub Adds : Text → List ℕ → Text → Type 0
+Adds before text after = Put before.bytes before.length text after.bytes after.length
+
 -- ---- what holds of texts: proofs/TextLaws.antt
 
 -- the unit that a message names; 0 where it names none

@@ -4,7 +4,7 @@
 
 ghost use Rattle.std.specs.Prelude.{◌≡◌, [], ◌∷◌, ◌++◌, ◌+◌, ◌≤◌, ◌<◌, length, take};
 ghost use Rattle.message.specs.declared.Message.TheVariants.{Address, Function as Command, Extended};
-ghost use Rattle.text.specs.Texts.{digits_of, letter_of, hex_digit, hex_of, trimmed, place_text, message_text, text_of, Put};
+ghost use Rattle.text.specs.Texts.{digits_of, letter_of, hex_digit, hex_of, trimmed, place_text, message_text, blank, text_of, Put, Adds};
 
 use message::codes::name_of;
 use message::{Function, Message};
@@ -20,7 +20,10 @@ pub struct Text {
 }
 
 // A text before anything is put into it.
-const BLANK: [u8; ROOM] = [0; ROOM];
+const BLANK: Text = Text {
+    bytes: [0; ROOM],
+    length: 0,
+};
 
 // The kinds of message, filled up with 0.
 const ADDRESS: [u8; 16] = *b"ADDRESS\0\0\0\0\0\0\0\0\0";
@@ -29,58 +32,17 @@ const FUNCTION: [u8; 16] = *b"FUNCTION\0\0\0\0\0\0\0\0";
 
 const EXTENDED: [u8; 16] = *b"EXTENDED\0\0\0\0\0\0\0\0";
 
-fn put_byte(out: &mut [u8; ROOM], at: usize, b: u8) -> usize
-    requires { at < 32 }
-    ensures { Put out.old at (b ∷ []) out.new result }
-{
-    out[at] = b;
-    at + 1
-}
-
-// How many digits a number has.
+// How many digits a number has. A `while`: how many turns there are is what it finds out.
 fn places(number: u64) -> usize
     ensures { result ≡ length (digits_of number) }
 {
     let mut k = 1;
     let mut rest = number;
     while rest > 9 {
-        rest = rest / 10;
+        rest /= 10;
         k += 1;
     }
     k
-}
-
-// The digits are put from the last to the first.
-fn put_number(out: &mut [u8; ROOM], at: usize, number: u64) -> usize
-    requires { at + 20 ≤ 32 }
-    ensures { Put out.old at (digits_of number) out.new result }
-{
-    let k = places(number);
-    let mut i = k;
-    let mut rest = number;
-    while i > 0 {
-        i -= 1;
-        out[at + i] = 48 + (rest % 10) as u8;
-        rest = rest / 10;
-    }
-    at + k
-}
-
-// A word that is filled up with 0 to sixteen bytes, as far as its first 0.
-fn put_word(out: &mut [u8; ROOM], at: usize, word: [u8; 16]) -> usize
-    requires { at + 16 ≤ 32 }
-    ensures { Put out.old at (trimmed word) out.new result }
-{
-    let mut i = 0;
-    while i < 16 {
-        let b = word[i];
-        if b == 0 {
-            return at + i;
-        }
-        out[at + i] = b;
-        i += 1;
-    }
-    at + i
 }
 
 fn hex_digit(n: u8) -> u8
@@ -90,14 +52,6 @@ fn hex_digit(n: u8) -> u8
     if n < 10 { 48 + n } else { 55 + n }
 }
 
-fn put_hex(out: &mut [u8; ROOM], at: usize, b: u8) -> usize
-    requires { at + 2 ≤ 32 }
-    ensures { Put out.old at (hex_of b) out.new result }
-{
-    let a = put_byte(out, at, hex_digit(b / 16));
-    put_byte(out, a, hex_digit(b % 16))
-}
-
 // A house's letter, A to P; `?` for a house above 15.
 pub fn letter(house: u8) -> u8
     ensures { result ≡ letter_of house }
@@ -105,122 +59,149 @@ pub fn letter(house: u8) -> u8
     if house <= 15 { 65 + house } else { 63 }
 }
 
-fn put_unit(out: &mut [u8; ROOM], at: usize, unit: u8) -> usize
-    requires { at + 20 ≤ 32 }
-    ensures { Put out.old at (digits_of (unit + 1)) out.new result }
-{
-    put_number(out, at, unit as u64 + 1)
+// Putting more after what a text has.
+impl Text {
+    fn put_byte(&mut self, b: u8)
+        requires { self.old.length < 32 }
+        ensures { Adds self.old (b ∷ []) self.new }
+    {
+        self.bytes[self.length] = b;
+        self.length += 1;
+    }
+
+    // The digits are put from the last to the first.
+    fn put_number(&mut self, number: u64)
+        requires { self.old.length + 20 ≤ 32 }
+        ensures { Adds self.old (digits_of number) self.new }
+    {
+        let k = places(number);
+        let mut rest = number;
+        for i in (0..k).rev() {
+            self.bytes[self.length + i] = 48 + (rest % 10) as u8;
+            rest /= 10;
+        }
+        self.length += k;
+    }
+
+    // A word that is filled up with 0 to sixteen bytes, as far as its first 0.
+    fn put_word(&mut self, word: [u8; 16])
+        requires { self.old.length + 16 ≤ 32 }
+        ensures { Adds self.old (trimmed word) self.new }
+    {
+        for b in word {
+            if b == 0 {
+                return;
+            }
+            self.put_byte(b);
+        }
+    }
+
+    fn put_hex(&mut self, b: u8)
+        requires { self.old.length + 2 ≤ 32 }
+        ensures { Adds self.old (hex_of b) self.new }
+    {
+        self.put_byte(hex_digit(b / 16));
+        self.put_byte(hex_digit(b % 16));
+    }
+
+    fn put_unit(&mut self, unit: u8)
+        requires { self.old.length + 20 ≤ 32 }
+        ensures { Adds self.old (digits_of (unit + 1)) self.new }
+    {
+        self.put_number(unit as u64 + 1);
+    }
+
+    // The data or the command of an extended message, with the byte before it.
+    fn put_data(&mut self, between: u8, b: u8)
+        requires { self.old.length + 3 ≤ 32 }
+        ensures { Adds self.old (between ∷ hex_of b) self.new }
+    {
+        self.put_byte(between);
+        self.put_hex(b);
+    }
 }
 
 // A kind of message and the house, with the byte between them before and after the house.
-fn put_head(out: &mut [u8; ROOM], kind: [u8; 16], between: u8, house: u8) -> usize
+fn head(kind: [u8; 16], between: u8, house: u8) -> Text
     requires { length (trimmed kind) ≤ 8 }
-    ensures { Put out.old 0 (trimmed kind ++ (between ∷ letter_of house ∷ between ∷ [])) out.new result }
+    ensures { Adds blank (trimmed kind ++ (between ∷ letter_of house ∷ between ∷ [])) result }
 {
-    let a = put_word(out, 0, kind);
-    let b = put_byte(out, a, between);
-    let c = put_byte(out, b, letter(house));
-    put_byte(out, c, between)
+    let mut t = BLANK;
+    t.put_word(kind);
+    t.put_byte(between);
+    t.put_byte(letter(house));
+    t.put_byte(between);
+    t
 }
 
-// The data or the command of an extended message, with the byte before it.
-fn put_data(out: &mut [u8; ROOM], at: usize, between: u8, b: u8) -> usize
-    requires { at + 3 ≤ 32 }
-    ensures { Put out.old at (between ∷ hex_of b) out.new result }
+fn address(between: u8, house: u8, unit: u8) -> Text
+    ensures { result ≡ text_of (message_text between (Address house unit)) }
 {
-    let a = put_byte(out, at, between);
-    put_hex(out, a, b)
+    let mut t = head(ADDRESS, between, house);
+    t.put_unit(unit);
+    t
 }
 
-fn put_address(out: &mut [u8; ROOM], between: u8, house: u8, unit: u8) -> usize
-    ensures { Put out.old 0 (message_text between (Address house unit)) out.new result }
+fn command(between: u8, house: u8, function: Function) -> Text
+    ensures { result ≡ text_of (message_text between (Command house function)) }
 {
-    let a = put_head(out, ADDRESS, between, house);
-    put_unit(out, a, unit)
+    let mut t = head(FUNCTION, between, house);
+    t.put_word(name_of(function));
+    t
 }
 
-fn put_function(out: &mut [u8; ROOM], between: u8, house: u8, function: Function) -> usize
-    ensures { Put out.old 0 (message_text between (Command house function)) out.new result }
+fn extended(between: u8, house: u8, unit: u8, data: u8, command: u8) -> Text
+    ensures { result ≡ text_of (message_text between (Extended house unit «data» command)) }
 {
-    let a = put_head(out, FUNCTION, between, house);
-    put_word(out, a, name_of(function))
-}
-
-fn put_extended(
-    out: &mut [u8; ROOM],
-    between: u8,
-    house: u8,
-    unit: u8,
-    data: u8,
-    command: u8,
-) -> usize
-    ensures { Put out.old 0 (message_text between (Extended house unit «data» command)) out.new result }
-{
-    let a = put_head(out, EXTENDED, between, house);
-    let b = put_unit(out, a, unit);
-    let c = put_data(out, b, between, data);
-    put_data(out, c, between, command)
-}
-
-fn put_message(out: &mut [u8; ROOM], m: Message, between: u8) -> usize
-    ensures { Put out.old 0 (message_text between m) out.new result }
-{
-    match m {
-        Message::Address { house, unit } => put_address(out, between, house, unit),
-        Message::Function { house, function } => put_function(out, between, house, function),
-        Message::Extended {
-            house,
-            unit,
-            data,
-            command,
-        } => put_extended(out, between, house, unit, data, command),
-    }
-}
-
-fn as_text(bytes: [u8; ROOM], length: usize) -> Text
-    ensures { result ≡ record { bytes = bytes; length = length } }
-{
-    Text {
-        bytes: bytes,
-        length: length,
-    }
+    let mut t = head(EXTENDED, between, house);
+    t.put_unit(unit);
+    t.put_data(between, data);
+    t.put_data(between, command);
+    t
 }
 
 // A number in decimal.
 pub fn decimal(n: u64) -> Text
     ensures { result ≡ text_of (digits_of n) }
 {
-    let mut bytes = BLANK;
-    let length = put_number(&mut bytes, 0, n);
-    as_text(bytes, length)
+    let mut t = BLANK;
+    t.put_number(n);
+    t
 }
 
 // A byte as two capital hexadecimal digits.
 pub fn hex(b: u8) -> Text
     ensures { result ≡ text_of (hex_of b) }
 {
-    let mut bytes = BLANK;
-    let length = put_hex(&mut bytes, 0, b);
-    as_text(bytes, length)
+    let mut t = BLANK;
+    t.put_hex(b);
+    t
 }
 
 // A module by its house and unit, as on its dial: A1 to P16.
 pub fn place(house: u8, unit: u8) -> Text
     ensures { result ≡ text_of (place_text house unit) }
 {
-    let mut bytes = BLANK;
-    let a = put_byte(&mut bytes, 0, letter(house));
-    let length = put_unit(&mut bytes, a, unit);
-    as_text(bytes, length)
+    let mut t = BLANK;
+    t.put_byte(letter(house));
+    t.put_unit(unit);
+    t
 }
 
 // A message, its fields parted by a byte.
 pub fn message(m: Message, between: u8) -> Text
     ensures { result ≡ text_of (message_text between m) }
 {
-    let mut bytes = BLANK;
-    let length = put_message(&mut bytes, m, between);
-    as_text(bytes, length)
+    match m {
+        Message::Address { house, unit } => address(between, house, unit),
+        Message::Function { house, function } => command(between, house, function),
+        Message::Extended {
+            house,
+            unit,
+            data,
+            command,
+        } => extended(between, house, unit, data, command),
+    }
 }
 
 // The front of some bytes, n of them where there are so many: a text as far as its length.

@@ -1,14 +1,14 @@
 // The receiver on a bench's line, and what it says in marks and in words.
-use crate::page::{put_number, put_text};
+use crate::page::Page;
 use crate::stations::put_message;
+use ground::Refusal;
 use receiver::{Event, Heard, Receiver, step};
-use station::bench::BenchAnswer;
 
 // The receiver is called with the line's half-cycle that a bench call answers; a call that is refused has none.
-pub(crate) fn listen(r: Receiver, answer: BenchAnswer) -> Heard {
+pub(crate) fn listen(r: Receiver, answer: Result<u8, Refusal>) -> Heard {
     match answer {
-        BenchAnswer::Line(half) => step(r, half),
-        BenchAnswer::Refused(_) => Heard {
+        Ok(half) => step(r, half),
+        Err(_) => Heard {
             event: Event::Nothing,
             next: r,
         },
@@ -20,32 +20,31 @@ pub(crate) fn event_mark(event: Event) -> u8 {
         Event::Nothing => b'.',
         Event::Message(_) => b'M',
         Event::Repeat => b'R',
-        Event::BrokenPair => b'B',
-        Event::BrokenUnsupported => b'B',
+        Event::BrokenPair | Event::BrokenUnsupported => b'B',
         Event::Refused(_) => b'?',
     }
 }
 
 // The number of a half-cycle, and what is said of it.
-fn put_said(page: &mut [u8; 65536], at: usize, number: usize, said: &[u8]) -> usize {
-    let mut to = put_text(page, at, b"half-cycle ");
-    to = put_number(page, to, number);
-    to = put_text(page, to, b": ");
-    put_text(page, to, said)
+fn put_said(page: &mut Page, number: usize, said: &[u8]) {
+    page.text(b"half-cycle ");
+    page.number(number);
+    page.text(b": ");
+    page.text(said);
 }
 
 // A line for what the receiver says: for NOTHING, none.
-pub(crate) fn put_event(page: &mut [u8; 65536], at: usize, number: usize, event: Event) -> usize {
+pub(crate) fn put_event(page: &mut Page, number: usize, event: Event) {
     match event {
-        Event::Nothing => at,
+        Event::Nothing => {}
         Event::Message(m) => {
-            let mut to = put_said(page, at, number, b"MESSAGE ");
-            to = put_message(page, to, m);
-            put_text(page, to, b"\n")
+            put_said(page, number, b"MESSAGE ");
+            put_message(page, m);
+            page.text(b"\n");
         }
-        Event::Repeat => put_said(page, at, number, b"REPEAT\n"),
-        Event::BrokenPair => put_said(page, at, number, b"BROKEN 10\n"),
-        Event::BrokenUnsupported => put_said(page, at, number, b"BROKEN 11\n"),
-        Event::Refused(_) => put_said(page, at, number, b"refused\n"),
+        Event::Repeat => put_said(page, number, b"REPEAT\n"),
+        Event::BrokenPair => put_said(page, number, b"BROKEN 10\n"),
+        Event::BrokenUnsupported => put_said(page, number, b"BROKEN 11\n"),
+        Event::Refused(_) => put_said(page, number, b"refused\n"),
     }
 }

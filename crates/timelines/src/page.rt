@@ -1,90 +1,114 @@
-// A page of text that may be written in any order, and drawings on it. A row of a drawing has a label of eleven, a hundred marks and
-// a line end.
+// A page of text, and drawings on it, whose marks may be put in any order. A row of a drawing has a label of eleven, a hundred marks
+// and a line end.
 ghost use Rattle.std.specs.Prelude.{◌≤◌};
 
 use text::{Text, decimal, front};
 
-// One byte at a place of the page; past its end, none.
-pub(crate) fn put(page: &mut [u8; 65536], at: usize, byte: u8) {
-    if at < 65536 {
-        page[at] = byte;
-    }
+// The bytes that a page has room for.
+const SIZE: usize = 65536;
+
+// The bytes of a row.
+const ROW: usize = 112;
+
+#[derive(Drop)]
+pub(crate) struct Page {
+    bytes: [u8; SIZE],
+    // Where writing goes on.
+    at: usize,
+    // Where the rows of the last drawing begin.
+    drawing: usize,
 }
 
-// A text from a place on. The result is the place after it.
-pub(crate) fn put_text(page: &mut [u8; 65536], at: usize, text: &[u8]) -> usize {
-    let mut to = at;
-    let mut i = 0;
-    while i < text.len() {
-        if to < 65536 {
-            page[to] = text[i];
-            to += 1;
-        }
-        i += 1;
-    }
-    to
-}
-
-// The same for a text that was handed back by value.
-pub(crate) fn put_short(page: &mut [u8; 65536], at: usize, short: Text) -> usize {
-    let bytes = short.bytes;
-    put_text(page, at, front(&bytes, short.length))
-}
-
-pub(crate) fn put_number(page: &mut [u8; 65536], at: usize, n: usize) -> usize {
-    put_short(page, at, decimal(n as u64))
-}
-
-// Where a row of a drawing begins.
-pub(crate) fn row_at(drawing: usize, row: usize) -> usize
-    ensures { result ≤ 67664 }
-{
-    if drawing <= 65536 {
-        if row <= 19 {
-            return drawing + row * 112;
+impl Page {
+    pub(crate) fn new() -> Page {
+        Page {
+            bytes: [b' '; SIZE],
+            at: 0,
+            drawing: 0,
         }
     }
-    65536
-}
 
-// Where a mark stands.
-pub(crate) fn cell(drawing: usize, row: usize, column: usize) -> usize {
-    if column <= 100 {
-        return row_at(drawing, row) + 11 + column;
+    // What is written so far.
+    pub(crate) fn written(&self) -> &[u8] {
+        front(&self.bytes, self.at)
     }
-    65536
-}
 
-// The numbers of the half-cycles above a drawing, by their last digits.
-pub(crate) fn put_ruler(page: &mut [u8; 65536], drawing: usize) {
-    let mut k: usize = 0;
-    while k < 100 {
-        put(page, cell(drawing, 0, k), b'0' + ((k + 1) % 10) as u8);
-        k += 1;
-    }
-    put(page, cell(drawing, 0, 100), b'\n');
-}
-
-// The label of a row, and the row's end.
-pub(crate) fn put_label(page: &mut [u8; 65536], drawing: usize, row: usize, label: &[u8]) {
-    put_text(page, row_at(drawing, row), label);
-    put(page, cell(drawing, row, 100), b'\n');
-}
-
-// A station by its number.
-pub(crate) fn put_station_name(page: &mut [u8; 65536], at: usize, number: usize) -> usize {
-    let to = put_text(page, at, b"station ");
-    put_number(page, to, number)
-}
-
-// The labels of the stations' rows, which stand below those of the line and the receiver.
-pub(crate) fn put_labels(page: &mut [u8; 65536], drawing: usize, n: usize) {
-    let mut k: usize = 0;
-    while k < 16 {
-        if k < n {
-            put_station_name(page, row_at(drawing, k + 3), k + 1);
-            put(page, cell(drawing, k + 3, 100), b'\n');
+    // A text. What comes past the page's end is left out.
+    pub(crate) fn text(&mut self, text: &[u8]) {
+        for &byte in text {
+            if self.at < SIZE {
+                self.bytes[self.at] = byte;
+                self.at += 1;
+            }
         }
-        k += 1;
+    }
+
+    // The same for a text that was handed back by value.
+    pub(crate) fn short(&mut self, short: Text) {
+        self.text(front(&short.bytes, short.length));
+    }
+
+    pub(crate) fn number(&mut self, n: usize) {
+        self.short(decimal(n as u64));
+    }
+
+    // A station by its number.
+    pub(crate) fn station(&mut self, number: usize) {
+        self.text(b"station ");
+        self.number(number);
+    }
+
+    // Where a row of the drawing begins; it has at most twenty.
+    fn row(&self, row: usize) -> usize
+        ensures { result ≤ 67664 }
+    {
+        self.drawing.min(SIZE) + row.min(19) * ROW
+    }
+
+    // A mark in a row of the drawing; past the page's end, none.
+    pub(crate) fn mark(&mut self, row: usize, column: usize, mark: u8) {
+        let at = self.row(row) + 11 + column.min(100);
+        if at < SIZE {
+            self.bytes[at] = mark;
+        }
+    }
+
+    // Ends a row of the drawing.
+    fn end(&mut self, row: usize) {
+        self.mark(row, 100, b'\n');
+    }
+
+    // The numbers of the half-cycles above a drawing, by their last digits.
+    fn ruler(&mut self) {
+        for k in 0..100 {
+            self.mark(0, k, b'0' + ((k + 1) % 10) as u8);
+        }
+        self.end(0);
+    }
+
+    // The label of a row, and the row's end.
+    fn label(&mut self, row: usize, label: &[u8]) {
+        self.at = self.row(row);
+        self.text(label);
+        self.end(row);
+    }
+
+    // The labels of the stations' rows, which stand below those of the line and the receiver.
+    fn stations(&mut self, n: usize) {
+        for k in 0..n.min(16) {
+            self.at = self.row(k + 3);
+            self.station(k + 1);
+            self.end(k + 3);
+        }
+    }
+
+    // Begins a drawing for n stations. Writing goes on below it.
+    pub(crate) fn draw(&mut self, n: usize) {
+        self.drawing = self.at;
+        self.ruler();
+        self.label(1, b"line");
+        self.label(2, b"receiver");
+        self.stations(n);
+        self.at = self.row(n.min(16) + 3);
     }
 }

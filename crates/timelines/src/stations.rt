@@ -1,7 +1,7 @@
 // The stations of the runs, with their messages, and the draws that each call gets.
-use crate::page::{put_number, put_short, put_station_name, put_text};
+use crate::page::Page;
 use message::{Function, Message};
-use station::{Held, Station};
+use station::Station;
 
 // The list of draws: each call takes sixteen of them.
 const DRAWS: [u8; 31] = [
@@ -10,46 +10,37 @@ const DRAWS: [u8; 31] = [
 ];
 
 // The draws of a call: from the list, or all the same where one is fixed.
-pub(crate) fn draws_at(call: usize, fixed: u8) -> [u8; 16] {
-    let mut draws = [fixed; 16];
-    if fixed != 0 {
-        return draws;
+pub(crate) fn draws_at(call: usize, fixed: Option<u8>) -> [u8; 16] {
+    if let Some(draw) = fixed {
+        return [draw; 16];
     }
+    let mut draws = [0; 16];
     let from = call % 31;
-    let mut k: usize = 0;
-    while k < 16 {
-        draws[k] = DRAWS[(from * 5 + k * 3) % 31];
-        k += 1;
+    for (k, draw) in draws.iter_mut().enumerate() {
+        *draw = DRAWS[(from * 5 + k * 3) % 31];
     }
     draws
 }
 
 // An empty station that has been given a message.
 fn loaded(m: Message, draw: u8) -> Station {
-    let loading = station::load(station::empty(), m, draw);
-    loading.next
+    station::load(station::empty(), m, draw).next
 }
 
 fn address(house: u8, unit: u8) -> Message {
-    Message::Address {
-        house: house,
-        unit: unit,
-    }
+    Message::Address { house, unit }
 }
 
 fn function(house: u8, function: Function) -> Message {
-    Message::Function {
-        house: house,
-        function: function,
-    }
+    Message::Function { house, function }
 }
 
 fn extended(house: u8, unit: u8, data: u8, command: u8) -> Message {
     Message::Extended {
-        house: house,
-        unit: unit,
-        data: data,
-        command: command,
+        house,
+        unit,
+        data,
+        command,
     }
 }
 
@@ -99,56 +90,39 @@ fn message_at(k: usize) -> Message {
 }
 
 pub(crate) fn sixteen() -> [Station; 16] {
-    let draws = draws_at(0, 0);
+    let draws = draws_at(0, None);
     let mut slots = [station::empty(); 16];
-    let mut k: usize = 0;
-    while k < 16 {
+    for k in 0..16 {
         slots[k] = loaded(message_at(k), draws[k]);
-        k += 1;
     }
     slots
 }
 
 // A message, its fields parted by spaces.
-pub(crate) fn put_message(page: &mut [u8; 65536], at: usize, m: Message) -> usize {
-    put_short(page, at, text::message(m, b' '))
+pub(crate) fn put_message(page: &mut Page, m: Message) {
+    page.short(text::message(m, b' '));
 }
 
 // One station of the list that stands before a run: its number, its message and its wait.
-fn put_station(page: &mut [u8; 65536], at: usize, number: usize, m: Message, wait: u8) -> usize {
-    let mut to = put_station_name(page, at, number);
-    to = put_text(page, to, b": ");
-    to = put_message(page, to, m);
-    to = put_text(page, to, b", wait ");
-    to = put_number(page, to, wait as usize);
-    put_text(page, to, b"\n")
+fn put_station(page: &mut Page, number: usize, m: Message, wait: u8) {
+    page.station(number);
+    page.text(b": ");
+    put_message(page, m);
+    page.text(b", wait ");
+    page.number(wait as usize);
+    page.text(b"\n");
 }
 
 // The stations that hold a message.
-pub(crate) fn put_stations(page: &mut [u8; 65536], at: usize, slots: [Station; 16]) -> usize {
-    let mut to = at;
-    let mut k: usize = 0;
-    while k < 16 {
-        let s = slots[k];
-        let held = s.held;
-        if let Held::Holds(m) = held {
-            to = put_station(page, to, k + 1, m, s.wait);
+pub(crate) fn put_stations(page: &mut Page, slots: [Station; 16]) {
+    for (k, s) in slots.iter().enumerate() {
+        if let Some(m) = s.held {
+            put_station(page, k + 1, m, s.wait);
         }
-        k += 1;
     }
-    to
 }
 
 // Whether no station has a message left.
 pub(crate) fn all_empty(slots: [Station; 16]) -> bool {
-    let mut k: usize = 0;
-    while k < 16 {
-        let s = slots[k];
-        let held = s.held;
-        if let Held::Holds(_) = held {
-            return false;
-        }
-        k += 1;
-    }
-    true
+    slots.iter().all(|s| s.held.is_none())
 }

@@ -38,7 +38,7 @@ pub struct Progress {
     pub receiver: Receiver,
     // The number that the next half-cycle has.
     pub number: u64,
-    // A byte that is none of 0, 1, 10 and 13 has come, or the last number was given.
+    // A byte that is none of 0, 1, 10 and 13 has come, or the last number was given. No Option or Result: the definition progress_after speaks of it.
     pub stopped: bool,
 }
 
@@ -57,16 +57,15 @@ pub struct Traced {
     pub length: usize,
 }
 
+// Bytes put at a place, and the place after them. packet_lines has the same for its own buffer: a routine that both call would be open, and have to test again
+// whether there is room.
 fn put_bytes(out: &mut [u8; SIZE], at: usize, bytes: &[u8]) -> usize
     requires { at + length bytes.now ≤ 65536 }
     ensures { Put out.old at bytes.now out.new result }
 {
-    let mut i = 0;
-    while i < bytes.len() {
-        out[at + i] = bytes[i];
-        i += 1;
-    }
-    at + i
+    let end = at + bytes.len();
+    out[at..end].copy_from_slice(bytes);
+    end
 }
 
 // A text as far as its length.
@@ -74,8 +73,7 @@ fn put_text(out: &mut [u8; SIZE], at: usize, text: Text) -> usize
     requires { at + length (take text.length text.bytes) ≤ 65536 }
     ensures { Put out.old at (take text.length text.bytes) out.new result }
 {
-    let bytes = text.bytes;
-    put_bytes(out, at, front(&bytes, text.length))
+    put_bytes(out, at, front(&text.bytes, text.length))
 }
 
 fn put_number(out: &mut [u8; SIZE], at: usize, number: u64) -> usize
@@ -152,24 +150,21 @@ fn print_half(p: Progress, half: u8, out: &mut [u8; SIZE], at: usize) -> Printed
     ensures { (result.progress ≡ half_after p half)
         × Put out.old at (event_text p.number (step_of p.receiver half).event) out.new result.at }
 {
-    let r = p.receiver;
-    let heard = step(r, half);
-    let event = heard.event;
-    let next = heard.next;
-    let place = put_event(out, at, p.number, event);
+    let heard = step(p.receiver, half);
+    let place = put_event(out, at, p.number, heard.event);
     if p.number == GREATEST {
         return Printed {
             progress: Progress {
-                receiver: next,
-                number: p.number,
+                receiver: heard.next,
                 stopped: true,
+                ..p
             },
             at: place,
         };
     }
     Printed {
         progress: Progress {
-            receiver: next,
+            receiver: heard.next,
             number: p.number + 1,
             stopped: false,
         },
@@ -186,19 +181,11 @@ fn print_byte(p: Progress, b: u8, out: &mut [u8; SIZE], at: usize) -> Printed
         return print_half(p, b - 48, out, at);
     }
     if (b == 10) | (b == 13) {
-        return Printed {
-            progress: p,
-            at: at,
-        };
+        return Printed { progress: p, at };
     }
     let place = put_line(out, at, p.number, Line::BadByte);
-    let r = p.receiver;
     Printed {
-        progress: Progress {
-            receiver: r,
-            number: p.number,
-            stopped: true,
-        },
+        progress: Progress { stopped: true, ..p },
         at: place,
     }
 }
@@ -208,8 +195,8 @@ fn ended(p: Progress, taken: usize, length: usize) -> Traced
 {
     Traced {
         progress: p,
-        taken: taken,
-        length: length,
+        taken,
+        length,
     }
 }
 
@@ -224,19 +211,16 @@ pub(crate) fn trace(p: Progress, input: &[u8], out: &mut [u8; SIZE]) -> Traced
     }
     let mut q = p;
     let mut at: usize = 0;
-    let mut i: usize = 0;
-    while i < input.len() {
+    for i in 0..input.len() {
         if at > LAST {
             return ended(q, i, at);
         }
         let done = print_byte(q, input[i], out, at);
-        let next = done.progress;
-        q = next;
+        q = done.progress;
         at = done.at;
-        i += 1;
         if q.stopped {
-            return ended(q, i, at);
+            return ended(q, i + 1, at);
         }
     }
-    ended(q, i, at)
+    ended(q, input.len(), at)
 }

@@ -6,7 +6,7 @@ ghost use Rattle.trace_lines.specs.Runs.{buffers_of, buffer_after, got_of, bytes
 use crate::{GREATEST, Progress, SIZE, begin, trace};
 use std::io::{Read, Write};
 
-// What a read gave.
+// What a read gave. No Result: there are three cases, the input's end is no error, and the definition got_of and RunOf speak of them.
 #[derive(Clone, Copy)]
 pub enum Got {
     Bytes(usize),
@@ -15,6 +15,7 @@ pub enum Got {
 }
 
 // Whether a run goes on, or why it ends: with its input, at a byte that stops the trace, where a read or a write failed.
+// No Result: a run that goes on and one that has ended are cases too, and the definition outcome_of speaks of all.
 #[derive(Clone, Copy)]
 pub enum Outcome {
     GoesOn,
@@ -24,7 +25,7 @@ pub enum Outcome {
     NotWritten,
 }
 
-// Where a trace stands after a piece, and whether all of its lines were written.
+// Where a trace stands after a piece, and whether all of its lines were written. No Result: after a write that failed the trace stands somewhere too.
 #[derive(Clone, Copy)]
 struct Piece {
     progress: Progress,
@@ -74,25 +75,25 @@ fn print_piece<W: Write>(
     let mut q = p;
     let mut from: usize = 0;
     let mut written = true;
+    // No counted loop: the place goes on by what the trace took.
     while from < input.len() {
         let done = trace(q, &input[from..], out);
         if written {
             written = write(rt, to, out, done.length);
         }
-        let next = done.progress;
-        q = next;
+        q = done.progress;
         from += done.taken;
         // Here and not before the buffer, where the inner loop would keep a flag for it in a register.
         if q.stopped {
             return Piece {
                 progress: q,
-                written: written,
+                written,
             };
         }
     }
     Piece {
         progress: q,
-        written: written,
+        written,
     }
 }
 
@@ -139,21 +140,15 @@ fn take_turn<R: Read, W: Write>(
     match got {
         Got::Bytes(n) => {
             let piece = print_piece(rt, to, p, &input[..n], out);
-            let next = piece.progress;
             Turn {
-                progress: next,
-                got: Got::Bytes(n),
+                progress: piece.progress,
+                got,
                 written: piece.written,
             }
         }
-        Got::Ended => Turn {
+        Got::Ended | Got::Failed => Turn {
             progress: p,
-            got: Got::Ended,
-            written: true,
-        },
-        Got::Failed => Turn {
-            progress: p,
-            got: Got::Failed,
+            got,
             written: true,
         },
     }
@@ -180,13 +175,7 @@ fn outcome_of(got: Got, written: bool, stopped: bool) -> Outcome
 fn goes_on(why: Outcome) -> bool
     ensures { result ≡ goes_on_by why }
 {
-    match why {
-        Outcome::GoesOn => true,
-        Outcome::InputEnded => false,
-        Outcome::Stopped => false,
-        Outcome::NotRead => false,
-        Outcome::NotWritten => false,
-    }
+    matches!(why, Outcome::GoesOn)
 }
 
 // The trace of a reader's input on a writer, read into a lent buffer piece by piece and written from a second one: to the input's
@@ -204,18 +193,17 @@ pub fn run<R: Read, W: Write>(
 {
     let mut p = begin();
     let mut reads: u64 = 0;
+    // No counted loop: how often it turns is answered, and no run comes to an end that a `for` would name.
     loop {
         let had = take_turn(rt, from, to, p, input, out);
-        let next = had.progress;
-        let got = had.got;
-        let why = outcome_of(got, had.written, next.stopped);
-        p = next;
+        p = had.progress;
+        let why = outcome_of(had.got, had.written, p.stopped);
         reads += 1;
         if !goes_on(why) | (reads == GREATEST) {
             return Ran {
                 progress: p,
                 outcome: why,
-                reads: reads,
+                reads,
             };
         }
     }

@@ -20,7 +20,7 @@ use std::io::Write;
 use trace_lines::SIZE;
 use trace_lines::run::{Outcome, run};
 
-// The descriptor of standard output.
+// The descriptor of standard output. The runtime's `print!` is no plainer: each function that says something would take the runtime.
 const STDOUT: i32 = 1;
 
 fn say(text: &[u8]) {
@@ -71,8 +71,7 @@ fn trace_to<W: Write>(rt: &HostRuntime, to: &mut W, name: &str, input: &mut [u8]
     if let Some(mut from) = open(rt, name) {
         let mut out = [0u8; SIZE];
         let ran = run(rt, &mut from, to, input, &mut out);
-        let why = ran.outcome;
-        say_end(why, ran.reads);
+        say_end(ran.outcome, ran.reads);
     }
 }
 

@@ -4,7 +4,9 @@
 --     message_length        a message has five bytes
 --     messages_read_back    MessagesReadBack
 --     kept_reported         where five bytes keep nothing that is read, it is refused by 6
+--     kept_refused          it is refused by 6 alone
 --     kept_read_back        KeptReadBack
+use Rattle.std.specs.Prelude.{Result, Ok, Err, Option, Some, None}
 use mathlib.Core.Path.{◌≡◌, refl, sym, ap, ◌∙◌}
 use mathlib.Core.Bool.{Bool, true, false, ◌&&◌, and-eq-true_iff}
 use mathlib.Core.List.{[], ◌∷◌}
@@ -19,26 +21,22 @@ use Rattle.ground.specs.Refusals.{judged, number_given}
 use Rattle.ground.specs.declared.Refusal.TheVariants as refusal
 use Rattle.message.specs.Codes.{function_answer}
 use Rattle.message.specs.Messages.{message_ok}
-use Rattle.message.specs.declared.codes.FunctionRead.{FunctionRead}
-use Rattle.message.specs.declared.codes.FunctionRead.TheVariants.{Function as Is, Refused as NoFunction}
+use Rattle.message.specs.declared.Function.{Function}
 use Rattle.message.specs.declared.Message.{Message}
 use Rattle.message.specs.declared.Message.TheVariants.{Address, Function as Command, Extended}
 use Rattle.message.proofs.CodeLaws.{codes_read_back}
 use Rattle.wire.specs.Messages.{taken_message, function_from, message_from, message_in, message_bytes}
 use Rattle.wire.specs.Messages.{as_written, MessagesReadBack, message_report, says_message, message_causes}
-use Rattle.wire.specs.declared.MessageRead.{MessageRead}
 use Rattle.wire.specs.Messages.{none_bytes, kept_as, kept_from, kept_in, is_kept, kept_causes, kept_report, KeptReadBack}
-use Rattle.wire.specs.declared.MessageRead.TheVariants.{Message as Says, Refused}
-use Rattle.wire.specs.declared.KeptRead.{KeptRead}
-use Rattle.wire.specs.declared.KeptRead.TheVariants.{Nothing, Message as Keeps, Refused as NotKept}
+use Rattle.ground.specs.declared.Refusal.{Refusal}
 
 -- ---- what numbers say, by their kind
 
-data Kind (k h t d c : ℕ) : MessageRead → Type 0 where
+data Kind (k h t d c : ℕ) : Result Message Refusal → Type 0 where
   address : k ≡ 1 → Kind k h t d c (taken_message (Address h t))
   function : k ≡ 2 → Kind k h t d c (function_from h (function_answer t))
   extended : k ≡ 3 → Kind k h t d c (taken_message (Extended h t d c))
-  other : (k ≡ 1 → ⊥) → (k ≡ 2 → ⊥) → (k ≡ 3 → ⊥) → Kind k h t d c (Refused refusal.Message)
+  other : (k ≡ 1 → ⊥) → (k ≡ 2 → ⊥) → (k ≡ 3 → ⊥) → Kind k h t d c (Err refusal.Message)
 
 kind_of : (k h t d c : ℕ) → Kind k h t d c (message_from k h t d c)
 unfolding message_from
@@ -53,26 +51,26 @@ kind_of k h t d c = go (ℕ_discrete k 1) (ℕ_discrete k 2) (ℕ_discrete k 3)
 -- ---- read back
 
 -- by which number it is refused
-abbrev numbered : MessageRead → Type 0
+abbrev numbered : Result Message Refusal → Type 0
 numbered x = (message_report x).number ≡ pick (says_message x) 0 2
 
 taken_number : (m : Message) → numbered (taken_message m)
 unfolding taken_message judged
 taken_number m = go (message_ok m)
   where
-    go : (b : Bool) → numbered (pick b (Says m) (Refused refusal.Message))
+    go : (b : Bool) → numbered (pick b (Ok m) (Err refusal.Message))
     go true = refl
     go false = refl
 
-function_number : (h : ℕ) (x : FunctionRead) → numbered (function_from h x)
-function_number h (Is f) = taken_number (Command h f)
-function_number h (NoFunction why) = refl
+function_number : (h : ℕ) (x : Result Function Refusal) → numbered (function_from h x)
+function_number h (Ok f) = taken_number (Command h f)
+function_number h (Err why) = refl
 
 pub message_number : (k h t d c : ℕ) → (message_report (message_from k h t d c)).number ≡ number_given (message_causes k h t d c)
 unfolding judged
 message_number k h t d c = go (kind_of k h t d c)
   where
-    go : {x : MessageRead} → Kind k h t d c x → numbered x
+    go : {x : Result Message Refusal} → Kind k h t d c x → numbered x
     go (address e) = taken_number (Address h t)
     go (function e) = function_number h (function_answer t)
     go (extended e) = taken_number (Extended h t d c)
@@ -84,11 +82,11 @@ message_length (Command h f) = refl
 message_length (Extended h u d c) = refl
 
 -- a message that is taken is valid, and the one handed in
-taken_back : (m g : Message) → taken_message m ≡ Says g → (m ≡ g) × (message_ok m ≡ true)
+taken_back : (m g : Message) → taken_message m ≡ Ok g → (m ≡ g) × (message_ok m ≡ true)
 unfolding taken_message judged
 taken_back m g e = go (message_ok m) e
   where
-    go : (b : Bool) → pick b (Says m) (Refused refusal.Message) ≡ Says g → (m ≡ g) × (b ≡ true)
+    go : (b : Bool) → pick b (Ok m) (Err refusal.Message) ≡ Ok g → (m ≡ g) × (b ≡ true)
     go true e' = (cc, refl)
     go false e' = (cc, cc)
 
@@ -100,17 +98,17 @@ none_written k d c n w =
     (eqb-true d 0 p.0, eqb-true c 0 p.1)
 
 -- a function is read by the code that it has
-function_back : (h t : ℕ) (x : FunctionRead) (m : Message) → function_answer t ≡ x → function_from h x ≡ Says m
+function_back : (h t : ℕ) (x : Result Function Refusal) (m : Message) → function_answer t ≡ x → function_from h x ≡ Ok m
     → (message_ok m ≡ true) × (message_bytes m ≡ 2 ∷ h ∷ t ∷ 0 ∷ 0 ∷ [])
-function_back h t (Is f) m e s =
+function_back h t (Ok f) m e s =
     let p = taken_back (Command h f) m s in (
       ap message_ok (sym p.0) ∙ p.1,
       ap message_bytes (sym p.0) ∙ ap (λ (n : ℕ). 2 ∷ h ∷ n ∷ 0 ∷ 0 ∷ []) (codes_read_back.code_of-function t f e),
     )
-function_back h t (NoFunction why) m e s = (cc, cc)
+function_back h t (Err why) m e s = (cc, cc)
 
 module _ (k h t d c : ℕ) (m : Message) where
-  said : {o : MessageRead} → Kind k h t d c o → o ≡ Says m → (message_ok m ≡ true) × (as_written k d c ≡ true → message_bytes m ≡ k ∷ h ∷ t ∷ d ∷ c ∷ [])
+  said : {o : Result Message Refusal} → Kind k h t d c o → o ≡ Ok m → (message_ok m ≡ true) × (as_written k d c ≡ true → message_bytes m ≡ k ∷ h ∷ t ∷ d ∷ c ∷ [])
   said (address one) e =
       let p = taken_back (Address h t) m e in (
         ap message_ok (sym p.0) ∙ p.1,
@@ -132,7 +130,7 @@ messages_read_back = record {
   valid_message = λ k h t d c m e. (said k h t d c m (kind_of k h t d c) e).0;
 }
   where
-    back : (m : Message) → message_ok m ≡ true → message_in (message_bytes m) ≡ Says m
+    back : (m : Message) → message_ok m ≡ true → message_in (message_bytes m) ≡ Ok m
     back (Address h u) ok = rw ok
     back (Command h f) ok = ap (function_from h) (codes_read_back.function_of_code f) ∙ rw ok
     back (Extended h u d c) ok = rw ok
@@ -145,20 +143,30 @@ module _ (k h t d c : ℕ) where
   all_zero = eqb k 0 && eqb h 0 && eqb t 0 && (eqb d 0 && eqb c 0)
 
   -- the two tests, and what the numbers say
-  abbrev kept : Bool → Bool → MessageRead → KeptRead
-  kept none written x = pick none Nothing (pick written (kept_as x) (NotKept refusal.State))
+  abbrev kept : Bool → Bool → Result Message Refusal → Result (Option Message) Refusal
+  kept none written x = pick none (Ok None) (pick written (kept_as x) (Err refusal.State))
 
-  pub kept_reported : {o : KeptRead} → o ≡ kept_from k h t d c
+  pub kept_reported : {o : Result (Option Message) Refusal} → o ≡ kept_from k h t d c
       → (o ≡ kept_from k h t d c) × ((kept_report o).number ≡ number_given (kept_causes k h t d c))
   unfolding kept_from judged
   kept_reported e =
-      (e, ap (λ (x : KeptRead). (kept_report x).number) e ∙ go all_zero (as_written k d c) (message_from k h t d c))
+      (e, ap (λ (x : Result (Option Message) Refusal). (kept_report x).number) e ∙ go all_zero (as_written k d c) (message_from k h t d c))
     where
-      go : (none written : Bool) (x : MessageRead) → (kept_report (kept none written x)).number ≡ pick (is_kept (kept none written x)) 0 6
+      go : (none written : Bool) (x : Result Message Refusal) → (kept_report (kept none written x)).number ≡ pick (is_kept (kept none written x)) 0 6
       go true written x = refl
-      go false true (Says m) = refl
-      go false true (Refused why) = refl
+      go false true (Ok m) = refl
+      go false true (Err why) = refl
       go false false x = refl
+
+  pub kept_refused : {why : Refusal} → kept_from k h t d c ≡ Err why → why ≡ refusal.State
+  unfolding kept_from
+  kept_refused {why} e = go all_zero (as_written k d c) (message_from k h t d c) e
+    where
+      go : (none written : Bool) (x : Result Message Refusal) → kept none written x ≡ Err why → why ≡ refusal.State
+      go true written x e = cc
+      go false true (Ok m) e = cc
+      go false true (Err why) e = cc
+      go false false x e = cc
 
   zeros : all_zero ≡ true → k ∷ h ∷ t ∷ d ∷ c ∷ [] ≡ none_bytes
   zeros e =
@@ -168,35 +176,35 @@ module _ (k h t d c : ℕ) where
       let ends = (and-eq-true_iff (eqb d 0) (eqb c 0)).0 all.1 in
       rw (eqb-true k 0 two.0, eqb-true h 0 two.1, eqb-true t 0 first.1, eqb-true d 0 ends.0, eqb-true c 0 ends.1)
 
-  none_kept : kept_from k h t d c ≡ Nothing → k ∷ h ∷ t ∷ d ∷ c ∷ [] ≡ none_bytes
+  none_kept : kept_from k h t d c ≡ Ok None → k ∷ h ∷ t ∷ d ∷ c ∷ [] ≡ none_bytes
   unfolding kept_from
   none_kept e = go all_zero (as_written k d c) (message_from k h t d c) refl e
     where
-      go : (none written : Bool) (x : MessageRead) → all_zero ≡ none → kept none written x ≡ Nothing → k ∷ h ∷ t ∷ d ∷ c ∷ [] ≡ none_bytes
+      go : (none written : Bool) (x : Result Message Refusal) → all_zero ≡ none → kept none written x ≡ Ok None → k ∷ h ∷ t ∷ d ∷ c ∷ [] ≡ none_bytes
       go true written x z e' = zeros z
-      go false true (Says m) z e' = cc
-      go false true (Refused why) z e' = cc
+      go false true (Ok m) z e' = cc
+      go false true (Err why) z e' = cc
       go false false x z e' = cc
 
-  message_kept : (m : Message) → kept_from k h t d c ≡ Keeps m → (message_ok m ≡ true) × (k ∷ h ∷ t ∷ d ∷ c ∷ [] ≡ message_bytes m)
+  message_kept : (m : Message) → kept_from k h t d c ≡ Ok (Some m) → (message_ok m ≡ true) × (k ∷ h ∷ t ∷ d ∷ c ∷ [] ≡ message_bytes m)
   unfolding kept_from
   message_kept m e = go all_zero (as_written k d c) (message_from k h t d c) refl refl e
     where
-      go : (none written : Bool) (x : MessageRead) → as_written k d c ≡ written → message_from k h t d c ≡ x → kept none written x ≡ Keeps m
+      go : (none written : Bool) (x : Result Message Refusal) → as_written k d c ≡ written → message_from k h t d c ≡ x → kept none written x ≡ Ok (Some m)
           → (message_ok m ≡ true) × (k ∷ h ∷ t ∷ d ∷ c ∷ [] ≡ message_bytes m)
       go true written x w s e' = (cc, cc)
-      go false true (Says g) w s e' =
+      go false true (Ok g) w s e' =
           let same : g ≡ m = cc in
-          let is = s ∙ ap Says same in
+          let is = s ∙ ap Ok same in
           (messages_read_back.valid_message k h t d c m is, sym (messages_read_back.bytes_of-message k h t d c m w is))
-      go false true (Refused why) w s e' = (cc, cc)
+      go false true (Err why) w s e' = (cc, cc)
       go false false x w s e' = (cc, cc)
 
 pub kept_read_back : KeptReadBack
 unfolding kept_from
 kept_read_back = record { none = refl; message = back; bytes_of-none = none_kept; bytes_of-message = message_kept }
   where
-    back : (m : Message) → message_ok m ≡ true → kept_in (message_bytes m) ≡ Keeps m
+    back : (m : Message) → message_ok m ≡ true → kept_in (message_bytes m) ≡ Ok (Some m)
     back (Address h u) ok = ap kept_as (messages_read_back.message_of_bytes (Address h u) ok)
     back (Command h f) ok = ap kept_as (messages_read_back.message_of_bytes (Command h f) ok)
     back (Extended h u d c) ok = ap kept_as (messages_read_back.message_of_bytes (Extended h u d c) ok)

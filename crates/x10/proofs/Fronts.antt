@@ -3,6 +3,7 @@
 --     command_placed      a radio command's three bytes
 --     wrote, not_written  what the answer of `radio::write` tells
 --     was_read, not_read  what the answer of `radio::read` tells
+use Rattle.std.specs.Prelude.{Result, Ok, Err}
 use mathlib.Core.Path.{◌≡◌, refl, sym, ap}
 use mathlib.Core.Bool.{Bool, true, false, true≢false, false≢true}
 use mathlib.Core.List.{List, [], ◌∷◌}
@@ -17,10 +18,6 @@ use Rattle.ground.specs.declared.Refusal.TheVariants as refusal
 use Rattle.ground.proofs.Lists.{sets-front}
 use Rattle.radio.specs.Codes.{byte_b, byte_c, command_ok, four_bytes}
 use Rattle.radio.specs.Answers.{write_causes, write_answer}
-use Rattle.radio.specs.declared.RadioBytes.{RadioBytes}
-use Rattle.radio.specs.declared.RadioBytes.TheVariants as bytes
-use Rattle.radio.specs.declared.RadioRead.{RadioRead}
-use Rattle.radio.specs.declared.RadioRead.TheVariants as read
 use Rattle.radio.specs.declared.RadioCommand.{RadioCommand}
 use Rattle.radio.specs.declared.RadioCommand.TheVariants.{On, Off, Bright, Dim}
 use Rattle.x10.specs.Commands.{command_bytes}
@@ -46,27 +43,22 @@ wrote k xs e = go (command_ok k) e
     go true p = (refl, ap (λ (r : Report ℕ). r.values) p)
     go false p = let n = ap (λ (r : Report ℕ). r.number) p in absurd (omega (arith, n))
 
-is_bytes : RadioBytes → Bool
-is_bytes (bytes.Bytes b x c y) = true
-is_bytes (bytes.Refused why) = false
-
-pub not_written : (k : RadioCommand) (why : Refusal) → write_answer k ≡ bytes.Refused why → (command_ok k ≡ false) × (why ≡ refusal.Message)
-unfolding write_answer judged is_bytes
+pub not_written : (k : RadioCommand) (why : Refusal) → write_answer k ≡ Err why → (command_ok k ≡ false) × (why ≡ refusal.Message)
+unfolding write_answer judged
 not_written k why e = go (command_ok k) e
   where
-    go : (b : Bool) → pick b (bytes.Bytes (byte_b k) (255 - byte_b k) (byte_c k) (255 - byte_c k)) (bytes.Refused refusal.Message) ≡ bytes.Refused why
-        → (b ≡ false) × (why ≡ refusal.Message)
-    go true p = absurd (true≢false (ap is_bytes p))
+    go : (b : Bool) → pick b (Ok (four_bytes k)) (Err refusal.Message) ≡ Err why → (b ≡ false) × (why ≡ refusal.Message)
+    go true p = cc
     go false p = (refl, cc)
 
 -- ---- what `radio::read` answered
 
-is_command : RadioRead → Bool
-is_command (read.Command k) = true
-is_command (read.Refused why) = false
+is_command : Result RadioCommand Refusal → Bool
+is_command (Ok k) = true
+is_command (Err why) = false
 
 module _ (k : RadioCommand) where
-  pub was_read : (cs : List Cause) (j : RadioCommand) → judged cs (read.Command k) read.Refused ≡ read.Command j → (number_given cs ≡ 0) × (k ≡ j)
+  pub was_read : (cs : List Cause) (j : RadioCommand) → judged cs (Ok k) Err ≡ Ok j → (number_given cs ≡ 0) × (k ≡ j)
   unfolding judged is_command
   was_read [] j e = (refl, cc)
   was_read (when true why ∷ cs) j e = absurd (false≢true (ap is_command e))
@@ -75,7 +67,7 @@ module _ (k : RadioCommand) where
   was_read (unless false why ∷ cs) j e = absurd (false≢true (ap is_command e))
 
   pub not_read : {B : Type 0} (done : B) (refused : Refusal → B) (cs : List Cause) (why : Refusal)
-      → judged cs (read.Command k) read.Refused ≡ read.Refused why → refused why ≡ judged cs done refused
+      → judged cs (Ok k) Err ≡ Err why → refused why ≡ judged cs done refused
   unfolding judged is_command
   not_read done refused [] why e = absurd (true≢false (ap is_command e))
   not_read done refused (when true w ∷ cs) why e = let p : w ≡ why = cc in ap refused (sym p)

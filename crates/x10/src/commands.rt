@@ -4,7 +4,7 @@ ghost use Rattle.x10.specs.Commands.{command_from, three_listed, command_bytes};
 
 use radio::RadioCommand;
 
-// The three numbers of a radio command: 0 on, 1 off, 2 bright, 3 dim; its house; its unit, 0 where it has none.
+// The three numbers of a radio command: 0 on, 1 off, 2 bright, 3 dim; its house; its unit, 0 where it has none. Numbers, as C hands them in.
 #[derive(Clone, Copy)]
 pub struct Three {
     pub command: u8,
@@ -17,16 +17,10 @@ pub(crate) fn command_from(command: u8, house: u8, unit: u8) -> RadioCommand
     ensures { result ≡ command_from command house unit }
 {
     match command {
-        0 => RadioCommand::On {
-            house: house,
-            unit: unit,
-        },
-        1 => RadioCommand::Off {
-            house: house,
-            unit: unit,
-        },
-        2 => RadioCommand::Bright { house: house },
-        3 => RadioCommand::Dim { house: house },
+        0 => RadioCommand::On { house, unit },
+        1 => RadioCommand::Off { house, unit },
+        2 => RadioCommand::Bright { house },
+        3 => RadioCommand::Dim { house },
         _ => RadioCommand::Bright { house: 16 },
     }
 }
@@ -38,22 +32,22 @@ pub(crate) fn three_of(command: RadioCommand) -> Three
     match command {
         RadioCommand::On { house, unit } => Three {
             command: 0,
-            house: house,
-            unit: unit,
+            house,
+            unit,
         },
         RadioCommand::Off { house, unit } => Three {
             command: 1,
-            house: house,
-            unit: unit,
+            house,
+            unit,
         },
         RadioCommand::Bright { house } => Three {
             command: 2,
-            house: house,
+            house,
             unit: 0,
         },
         RadioCommand::Dim { house } => Three {
             command: 3,
-            house: house,
+            house,
             unit: 0,
         },
     }

@@ -21,15 +21,15 @@ ghost use Rattle.x10.specs.Radio.{code_answer, code_after, command_answer, comma
 
 use crate::commands::{command_from, three_of};
 use burst::write_burst;
-use ground::{CountAnswer, Refusal};
+use ground::Refusal;
 use lit::lit;
 use message::Message;
-use radio::{RadioBytes, RadioCommand, RadioRead, read, write};
+use radio::{RadioCommand, read, write};
 use receiver::lent::{fresh, receive};
 use room::mains::mains_route;
 use room::routes::radio_route;
 use room::{apply, tally};
-use wire::{MessageRead, message_from, pack};
+use wire::{message_from, pack};
 
 mod commands;
 
@@ -44,10 +44,7 @@ fn no_message() -> Message
 fn handed_on(kind: u8, house: u8, third: u8, data: u8, command: u8) -> Message
     ensures { result ≡ handed_on (message_from kind house third «data» command) }
 {
-    match message_from(kind, house, third, data, command) {
-        MessageRead::Message(m) => m,
-        MessageRead::Refused(_) => no_message(),
-    }
+    message_from(kind, house, third, data, command).unwrap_or(no_message())
 }
 
 // Writes the burst of a message to the front of a lent buffer; the count is that of its half-cycles. Refused 2, 9.
@@ -65,8 +62,8 @@ pub extern "C" fn x10_burst(
 {
     // In each arm a call of its own: a message chosen first is copied, eight instructions of two hundred.
     match message_from(kind, house, third, data, command) {
-        MessageRead::Message(m) => pack(write_burst(m, buf)),
-        MessageRead::Refused(_) => pack(write_burst(no_message(), buf)),
+        Ok(m) => pack(write_burst(m, buf)),
+        Err(_) => pack(write_burst(no_message(), buf)),
     }
 }
 
@@ -91,23 +88,16 @@ pub extern "C" fn x10_receive(state: &mut [u8], halves: &[u8], events: &mut [u8]
 }
 
 // Writes a command's four bytes to the front of a buffer.
-fn write_code(k: RadioCommand, out: &mut [u8]) -> CountAnswer
+fn write_code(k: RadioCommand, out: &mut [u8]) -> Result<usize, Refusal>
     ensures value { result ≡ code_answer k (length out.old) }
     ensures out_after { out.new ≡ code_after k out.old }
 {
-    match write(k) {
-        RadioBytes::Bytes(b, x, c, y) => {
-            if out.len() < 4 {
-                return CountAnswer::Refused(Refusal::Short);
-            }
-            out[0] = b;
-            out[1] = x;
-            out[2] = c;
-            out[3] = y;
-            CountAnswer::Done(4)
-        }
-        RadioBytes::Refused(why) => CountAnswer::Refused(why),
+    let code = write(k)?;
+    if out.len() < 4 {
+        return Err(Refusal::Short);
     }
+    out[..4].copy_from_slice(&code);
+    Ok(4)
 }
 
 // Writes the four bytes of a radio command to the front of a lent buffer; the count is 4. Refused 2, 9.
@@ -130,6 +120,19 @@ fn put_command(out: &mut [u8], k: RadioCommand)
     out[2] = three.unit;
 }
 
+// Writes the three numbers of the radio command that four bytes name to the front of a buffer.
+fn read_code(code: &[u8], out: &mut [u8]) -> Result<usize, Refusal>
+    ensures value { result ≡ command_answer code.now (length out.old) }
+    ensures out_after { out.new ≡ command_after code.now out.old }
+{
+    if out.len() < 3 {
+        return Err(Refusal::Short);
+    }
+    let k = read(code)?;
+    put_command(out, k);
+    Ok(3)
+}
+
 // Writes the three numbers of the radio command that four bytes name to the front of a lent buffer; the count is 3. Refused 9, 12,
 // 13, 14.
 #[unsafe(no_mangle)]
@@ -137,16 +140,7 @@ pub extern "C" fn x10_radio_read(code: &[u8], out: &mut [u8]) -> u64
     ensures answer { result ≡ packed (command_answer code.now (length out.old)) }
     ensures buffer { out.new ≡ command_after code.now out.old }
 {
-    if out.len() < 3 {
-        return pack(CountAnswer::Refused(Refusal::Short));
-    }
-    match read(code) {
-        RadioRead::Command(k) => {
-            put_command(out, k);
-            pack(CountAnswer::Done(3))
-        }
-        RadioRead::Refused(why) => pack(CountAnswer::Refused(why)),
-    }
+    pack(read_code(code, out))
 }
 
 // Applies a message to a lent module table and a lent shutter table; the counts are of the modules whose level differs and of the shutters whose opening

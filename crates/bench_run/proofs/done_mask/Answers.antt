@@ -14,11 +14,11 @@ loop-left-init c =
     let done = c.args.done in
     let long : length done ≡ 16 = search rules in
     let all : length done ≤ 16 = omega arith in
-    (omega arith, long, ap done_mask (sym (drop_of_length-le done all)))
+    (long, ap done_mask (sym (drop_of_length-le done all)))
 
 pub loop-left-preserved : goal.loop-left-preserved
 loop-left-preserved c =
     let now = c.loop-left in
     let done = c.args.done in
-    let more = mask_cons done now.left now.mask c.bit_of.result false c.loop-left-test.true (omega arith) now.invariant.1 in
-    (omega arith, now.invariant.1, more now.invariant.2 c.bit_of.ensures.0)
+    let more = mask_cons done now.left now.mask c.bit_of.result false c.loop-left-test.true (omega arith) now.invariant.0 in
+    (now.invariant.0, more now.invariant.1 c.bit_of.ensures.0)

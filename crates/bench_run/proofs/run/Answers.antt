@@ -1,12 +1,16 @@
 -- `run` meets its contract: the tests are those of `run_causes`, in its order, the last of them in `run_loaded`. Messages were judged before loading, so that
 -- loading is refused by a draw alone.
+use Rattle.std.specs.Prelude.{Result, Err}
 use mathlib.Core.Path.{sym, ap, ◌∙◌}
+use Prim.Native.Nat.{ℕ}
 use native.Mathlib.Omega.{arith}
 use borrow.Author.Tests.{le-leb, eq-eqb}
 use lib.ListN.{length}
-use Rattle.ground.specs.declared.CountAnswer.TheVariants.{Refused}
+use Rattle.ground.specs.Refusals.{count_report}
+use Rattle.ground.specs.declared.Refusal.{Refusal}
 use Rattle.ground.specs.declared.Refusal.TheVariants as refusal
 use Rattle.ground.proofs.Causes.{ladder}
+use Rattle.ground.proofs.Passed.{passed_on}
 use Rattle.bench_run.specs.BenchRuns.{lent, is_loaded, run_answer}
 use Rattle.bench_run.proofs.RunLaws.{load_refused, first_slots, run_refused, ran, run_ran}
 use Rattle.bench_run.proofs.run.Goals as goal
@@ -43,28 +47,28 @@ returns-then-messages-n c =
     let owed = run_refused l refusal.State (search ladder depth 12 fits 4000) in
     record { answer = owed.0; report = owed.1.0; lines = owed.1.1.0; marks = owed.1.1.1 }
 
-pub returns-in-Refused : goal.returns-in-Refused
+pub returns-in_err-slots : goal.returns-in_err-slots
 unfolding run_answer
-returns-in-Refused c =
+returns-in_err-slots c =
     let a = c.args in
     let l = lent a.messages.now a.loads.now a.draws.now a.lines.now a.marks.now in
     let said = sym c.messages_fine.ensures ∙ c.if-not-messages_fine.false in
-    let draw = load_refused l said c.if-messages-n.false _ (sym c.in-Refused.is ∙ c.load_all-loaded.ensures.answer) in
+    let draw = load_refused l said c.if-messages-n.false _ (sym c.in_err-slots.ensures.refused) in
     let bad = draw.1 in
-    let owed = run_refused l _ (ap Refused draw.0 ∙ search ladder depth 12 fits 4000) in
-    record { answer = owed.0; report = owed.1.0; lines = owed.1.1.0; marks = owed.1.1.1 }
+    let owed = run_refused l _ (ap {B = Result ℕ Refusal} Err draw.0 ∙ search ladder depth 12 fits 4000) in
+    let passed = passed_on _ c.from_residual.ensures.1 in
+    record { answer = passed ∙ owed.0; report = ap count_report passed ∙ owed.1.0; lines = owed.1.1.0; marks = owed.1.1.1 }
 
-pub returns-in-Loaded : goal.returns-in-Loaded
-returns-in-Loaded c =
+pub returns : goal.returns
+returns c =
     let a = c.args in
     let l = lent a.messages.now a.loads.now a.draws.now a.lines.now a.marks.now in
-    let loaded = c.load_all-loaded.ensures in
+    let loaded = c.in_ok-slots.ensures.loaded in
     let n = length l.loads in
-    let all = c.in-Loaded.is in
     let calls = c.run_loaded.ensures in
     let owed = run_ran l
-    (ran l _ c.run_loaded.result _ _ (first_slots l _ (loaded.slots all)) (calls.answer, (calls.lines, calls.marks)))
+    (ran l _ c.run_loaded.result _ _ (first_slots l _ loaded.1) (calls.answer, (calls.lines, calls.marks)))
     (sym c.messages_fine.ensures ∙ c.if-not-messages_fine.false)
     (le-leb 1 n (omega (arith, c.if-n-lt1.false))) (le-leb n 16 (omega (arith, c.if-n-gt-SLOTS.false))) (eq-eqb _ _ c.if-messages-n.false)
-    (ap is_loaded (sym loaded.answer ∙ all)) in
+    (ap is_loaded loaded.0) in
     record { answer = owed.0; report = owed.1.0; lines = owed.1.1.0; marks = owed.1.1.1 }

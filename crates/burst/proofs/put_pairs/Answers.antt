@@ -9,11 +9,11 @@ use Rattle.burst.proofs.put_pairs.Goals as goal
 pub loop-left-preserved : goal.loop-left-preserved
 loop-left-preserved c =
     let now = c.loop-left in
-    (omega arith, omega arith, pair_put now.out now.next now.left c.args.word c.loop-left-test.true ∙ now.invariant.2)
+    (omega arith, pair_put now.out now.next now.left c.args.word c.loop-left-test.true ∙ now.invariant.1)
 
 pub returns : goal.returns
 unfolding bits_of pairs_of
 returns c =
     let now = c.loop-left in
     let none : 0 ≡ now.left = omega arith in
-    ap (λ (k : ℕ). sets now.out now.next (pairs_of (bits_of k c.args.word))) none ∙ now.invariant.2
+    ap (λ (k : ℕ). sets now.out now.next (pairs_of (bits_of k c.args.word))) none ∙ now.invariant.1

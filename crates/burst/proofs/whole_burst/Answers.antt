@@ -1,6 +1,7 @@
 -- `whole_burst` meets its contract: the first frame is at the front, and the same half-cycles are put behind it.
 use mathlib.Core.Path.{◌∙◌, ap}
 use Prim.Native.Nat.{ℕ}
+use native.Mathlib.Nat.{sub-zero}
 use lib.Seq.{sets, paste}
 use Rattle.message.specs.declared.word.Word.{Word}
 use Rattle.burst.specs.Frames.{bits_of, pairs_of}
@@ -11,10 +12,12 @@ pub returns : goal.returns
 returns c =
     λ m e.
     let w = c.args.w in
-    let a = c.first_frame.result in
-    let first = c.first_frame.ensures
+    let a = c.first_frame-a.result in
+    let first = c.first_frame-a.ensures
     ∙ ap (λ (v : Word). sets started 4 (pairs_of (bits_of v.count v.bits))) e
     ∙ frame_placed m in
-    c.put_again.ensures
-    ∙ ap (λ (k : ℕ). paste a k a k) (length-of_word m w c.frame_length.result e c.frame_length.ensures)
+    let n = c.frame_length-n.result in
+    c.copy_within.ensures.after
+    ∙ ap (paste a n a) (sub-zero n)
+    ∙ ap (λ (k : ℕ). paste a k a k) (length-of_word m w n e c.frame_length-n.ensures)
     ∙ burst_placed m a first

@@ -9,41 +9,19 @@ use Rattle.lynx_net.proofs.FormLaws.{payload_length}
 use Rattle.lynx_net.proofs.PacketLaws.{past_causes}
 use Rattle.lynx_net.proofs.write.Goals as goal
 
-pub returns-then-not-payload_ok-clause-answer : goal.returns-then-not-payload_ok-clause-answer
+pub returns-then-not-payload_ok : goal.returns-then-not-payload_ok
 unfolding write_answer buffer_after
-returns-then-not-payload_ok-clause-answer c = search ladder
-
-pub returns-then-not-payload_ok-clause-report : goal.returns-then-not-payload_ok-clause-report
-unfolding write_answer buffer_after
-returns-then-not-payload_ok-clause-report c = search ladder
-
-pub returns-then-not-payload_ok-clause-buffer : goal.returns-then-not-payload_ok-clause-buffer
-unfolding write_answer buffer_after
-returns-then-not-payload_ok-clause-buffer c = search ladder
+returns-then-not-payload_ok c =
+    record { answer = search ladder; report = search ladder; buffer = search ladder }
 
 pub write_around-requires : goal.write_around-requires
 write_around-requires c = payload_length c.args.payload.now (sym c.payload_ok.ensures ∙ c.if-not-payload_ok.false)
 
-pub returns-clause-answer : goal.returns-clause-answer
+pub returns : goal.returns
 unfolding write_answer buffer_after judged
-returns-clause-answer c =
+returns c =
     let a = c.args in
     let p = a.payload.now in
     let one = sym c.payload_ok.ensures ∙ c.if-not-payload_ok.false in
-    (past_causes (packet_of a.node a.sequence p) a.buf.now (unless (payload_ok p) refusal.Payload ∷ []) (rw one) c.write_around.ensures.value c.write_around.ensures.buf_after).0
-
-pub returns-clause-report : goal.returns-clause-report
-unfolding write_answer buffer_after judged
-returns-clause-report c =
-    let a = c.args in
-    let p = a.payload.now in
-    let one = sym c.payload_ok.ensures ∙ c.if-not-payload_ok.false in
-    (past_causes (packet_of a.node a.sequence p) a.buf.now (unless (payload_ok p) refusal.Payload ∷ []) (rw one) c.write_around.ensures.value c.write_around.ensures.buf_after).1.0
-
-pub returns-clause-buffer : goal.returns-clause-buffer
-unfolding write_answer buffer_after judged
-returns-clause-buffer c =
-    let a = c.args in
-    let p = a.payload.now in
-    let one = sym c.payload_ok.ensures ∙ c.if-not-payload_ok.false in
-    (past_causes (packet_of a.node a.sequence p) a.buf.now (unless (payload_ok p) refusal.Payload ∷ []) (rw one) c.write_around.ensures.value c.write_around.ensures.buf_after).1.1
+    let owed = past_causes (packet_of a.node a.sequence p) a.buf.now (unless (payload_ok p) refusal.Payload ∷ []) (rw one) c.write_around.ensures.value c.write_around.ensures.buf_after in
+    record { answer = owed.0; report = owed.1.0; buffer = owed.1.1 }

@@ -1,13 +1,12 @@
 use mathlib.Core.Path.{refl}
-use native.Mathlib.Omega.{arith}
 use native.Mathlib.Numerals.{add-one}
 use Rattle.ground.specs.Records.{all_below}
 use Rattle.module_table.proofs.all_heard_ok.Goals as goal
 
 pub loop-h-init : goal.loop-h-init
 unfolding all_below
-loop-h-init c = (omega arith, refl)
+loop-h-init c = refl
 
 pub loop-h-preserved : goal.loop-h-preserved
 unfolding all_below
-loop-h-preserved c = (omega arith, simp (add-one, c.loop-h.invariant.1, c.heard_ok-ok.ensures))
+loop-h-preserved c = simp (add-one, c.loop-h.invariant, c.heard_ok-ok.ensures)

@@ -2,7 +2,6 @@ use mathlib.Core.Path.{◌≡◌, refl}
 use mathlib.Core.Bool.{Bool, ◌&&◌}
 use mathlib.Core.List.{List}
 use Prim.Native.Nat.{ℕ, ◌+◌, ◌*◌}
-use native.Mathlib.Omega.{arith}
 use native.Mathlib.Numerals.{add-one}
 use Rattle.ground.specs.Records.{all_below, each_ok}
 use Rattle.record.specs.Layout.{UNITS, record_at, modules}
@@ -17,7 +16,7 @@ passed h t n ok more so_far last = simp (add-one, so_far, last)
 
 pub loop-n-init : goal.loop-n-init
 unfolding all_below
-loop-n-init c = (omega arith, refl)
+loop-n-init c = refl
 
 pub loop-n-preserved : goal.loop-n-preserved
-loop-n-preserved c = (omega arith, passed c.args.house c.args.t.now _ _ _ c.loop-n.invariant.1 c.record_ok-ok.ensures)
+loop-n-preserved c = passed c.args.house c.args.t.now _ _ _ c.loop-n.invariant c.record_ok-ok.ensures

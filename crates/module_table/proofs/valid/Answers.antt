@@ -4,10 +4,12 @@ use Rattle.record.specs.ModuleTable.{table_ok}
 use Rattle.module_table.proofs.TableLaws.{by_houses}
 use Rattle.module_table.proofs.valid.Goals as goal
 
-pub returns-then-t-ne-TABLE_BYTES : goal.returns-then-t-ne-TABLE_BYTES
+pub returns-in-None : goal.returns-in-None
 unfolding table_ok
-returns-then-t-ne-TABLE_BYTES c = simp (ne_eqb _ _ c.if-t-ne-TABLE_BYTES.true)
+returns-in-None c = simp (ne_eqb _ _ c.in-None.ensures.cases)
 
-pub returns : goal.returns
+pub returns-in-Some : goal.returns-in-Some
 unfolding table_ok
-returns c = rw (c.all_heard_ok.ensures, c.all_units_ok.ensures, eq-eqb _ _ c.if-t-ne-TABLE_BYTES.false) (by_houses _)
+returns-in-Some c =
+    let whole = c.in-Some.ensures.cases in
+    rw (c.all_heard_ok.ensures, c.all_units_ok.ensures, whole.same, eq-eqb _ _ whole.long) (by_houses _)

@@ -15,17 +15,10 @@ pub loop-i-preserved : goal.loop-i-preserved
 loop-i-preserved c =
     let a = c.args in
     let now = c.loop-i in
-    let r = now.invariant in
+    let i = now.i in
     let B = address_bytes a.ms.house a.ms.units in
-    let put = c.put_five.ensures in
-    let next = each_next B 3 now.i a.n now.out refl (omega arith) in
-    record {
-      within = omega arith;
-      few = r.few;
-      room = r.room;
-      long = omega (arith, r.long);
-      bytes = ap (λ (l : List ℕ). sets l (3 + 5 * (now.i + 1)) (each_of B (now.i + 1) (a.n - (now.i + 1)))) put ∙ next ∙ r.bytes;
-    }
+    let next = each_next B 3 i a.n now.out refl (omega arith) in
+    ap (λ (l : List ℕ). sets l (3 + 5 * (i + 1)) (each_of B (i + 1) (a.n - (i + 1)))) c.put_five.ensures ∙ next ∙ now.invariant
 
 pub returns : goal.returns
 returns c =
@@ -33,6 +26,6 @@ returns c =
     let now = c.loop-i in
     let B = address_bytes a.ms.house a.ms.units in
     let all = each_mapped (λ i. Address a.ms.house (digit_at a.ms.units i)) 0 a.n in
-    let end = sym (each_end B 3 now.i a.n now.out (omega arith)) ∙ now.invariant.bytes in
+    let end = sym (each_end B 3 now.i a.n now.out (omega arith)) ∙ now.invariant in
     end ∙ ap (λ (l : List ℕ). sets a.out.now 3 l) (sym all)
     ∙ ap (λ (k : ℕ). sets a.out.now 3 (all_bytes (map (λ i. Address a.ms.house (digit_at a.ms.units i)) (numbers_from 0 k)))) c.requires.0

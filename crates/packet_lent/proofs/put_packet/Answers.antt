@@ -16,11 +16,11 @@ overflow_mul-n c = omega (arith, listed_few c.args.p.messages, c.message_count-n
 pub overflow_add-n : goal.overflow_add-n
 overflow_add-n c = omega (arith, listed_few c.args.p.messages, c.message_count-n.ensures)
 
-pub returns-then-out-n-clause-value : goal.returns-then-out-n-clause-value
-returns-then-out-n-clause-value c = let a = c.args in (packet_short a.p a.out.now c.message_count-n.ensures c.if-out-n.true).0
-
-pub returns-then-out-n-clause-out_after : goal.returns-then-out-n-clause-out_after
-returns-then-out-n-clause-out_after c = let a = c.args in (packet_short a.p a.out.now c.message_count-n.ensures c.if-out-n.true).1
+pub returns-then-out-n : goal.returns-then-out-n
+returns-then-out-n c =
+    let a = c.args in
+    let owed = packet_short a.p a.out.now c.message_count-n.ensures c.if-out-n.true in
+    record { value = owed.0; out_after = owed.1 }
 
 pub put_addresses-requires : goal.put_addresses-requires
 put_addresses-requires c =
@@ -32,8 +32,8 @@ put_ending-requires c =
     let count = c.unit_count-units.ensures in
     (omega (arith, count.1), omega (arith, count.0, listed_length c.args.p.messages, c.message_count-n.ensures, c.if-out-n.false))
 
-pub returns-clause-value : goal.returns-clause-value
-returns-clause-value c =
+pub returns : goal.returns
+returns c =
     let a = c.args in
     let ms = a.p.messages in
     let head = sets a.out.now 0 (a.p.node ∷ a.p.sequence ∷ a.p.length ∷ []) in
@@ -41,15 +41,5 @@ returns-clause-value c =
     let addressed = c.put_addresses.ensures ∙ ap (λ (l : List ℕ). sets l 3 (all_bytes (addresses_of ms))) c.put_head.ensures in
     let ended = c.put_ending.ensures ∙ ap (λ (l : List ℕ). sets l (3 + 5 * c.unit_count-units.result) (all_bytes (ending_list ms.ending))) addressed in
     let placed = ended ∙ ap (λ (n : ℕ). sets (sets head 3 (all_bytes (addresses_of ms))) (3 + 5 * n) (all_bytes (ending_list ms.ending))) count in
-    (packet_put a.p a.out.now c.message_count-n.ensures c.if-out-n.false (placed ∙ two_parts ms head)).0
-
-pub returns-clause-out_after : goal.returns-clause-out_after
-returns-clause-out_after c =
-    let a = c.args in
-    let ms = a.p.messages in
-    let head = sets a.out.now 0 (a.p.node ∷ a.p.sequence ∷ a.p.length ∷ []) in
-    let count = c.unit_count-units.ensures.0 in
-    let addressed = c.put_addresses.ensures ∙ ap (λ (l : List ℕ). sets l 3 (all_bytes (addresses_of ms))) c.put_head.ensures in
-    let ended = c.put_ending.ensures ∙ ap (λ (l : List ℕ). sets l (3 + 5 * c.unit_count-units.result) (all_bytes (ending_list ms.ending))) addressed in
-    let placed = ended ∙ ap (λ (n : ℕ). sets (sets head 3 (all_bytes (addresses_of ms))) (3 + 5 * n) (all_bytes (ending_list ms.ending))) count in
-    (packet_put a.p a.out.now c.message_count-n.ensures c.if-out-n.false (placed ∙ two_parts ms head)).1
+    let owed = packet_put a.p a.out.now c.message_count-n.ensures c.if-out-n.false (placed ∙ two_parts ms head) in
+    record { value = owed.0; out_after = owed.1 }

@@ -1,33 +1,16 @@
 -- `read` meets its contract: what the packet's reader refuses is refused first, and of a packet that it reads all is told.
+use Rattle.ground.proofs.Passed.{passed_on}
 use Rattle.packet_lent.proofs.BytesLaws.{packet_carried, packet_refused}
 use Rattle.packet_lent.proofs.read.Goals as goal
 
-pub returns-in-Packet-clause-answer : goal.returns-in-Packet-clause-answer
-returns-in-Packet-clause-answer c =
+pub returns : goal.returns
+returns c =
     let a = c.args in
-    (packet_carried a.packet.now a.out.now _ c.read.ensures.answer c.in-Packet.is c.put_packet.ensures.value c.put_packet.ensures.out_after).0
+    let told = packet_carried a.packet.now a.out.now _ c.read.ensures.answer c.in_ok-p.was c.put_packet.ensures.value c.put_packet.ensures.out_after in
+    record { answer = told.0; report = told.1.0; buffer = told.1.1 }
 
-pub returns-in-Packet-clause-report : goal.returns-in-Packet-clause-report
-returns-in-Packet-clause-report c =
+pub returns-in_err-p : goal.returns-in_err-p
+returns-in_err-p c =
     let a = c.args in
-    (packet_carried a.packet.now a.out.now _ c.read.ensures.answer c.in-Packet.is c.put_packet.ensures.value c.put_packet.ensures.out_after).1.0
-
-pub returns-in-Packet-clause-buffer : goal.returns-in-Packet-clause-buffer
-returns-in-Packet-clause-buffer c =
-    let a = c.args in
-    (packet_carried a.packet.now a.out.now _ c.read.ensures.answer c.in-Packet.is c.put_packet.ensures.value c.put_packet.ensures.out_after).1.1
-
-pub returns-in-Refused-clause-answer : goal.returns-in-Refused-clause-answer
-returns-in-Refused-clause-answer c =
-    let a = c.args in
-    (packet_refused a.packet.now a.out.now _ c.read.ensures.report c.in-Refused.is).0
-
-pub returns-in-Refused-clause-report : goal.returns-in-Refused-clause-report
-returns-in-Refused-clause-report c =
-    let a = c.args in
-    (packet_refused a.packet.now a.out.now _ c.read.ensures.report c.in-Refused.is).1.0
-
-pub returns-in-Refused-clause-buffer : goal.returns-in-Refused-clause-buffer
-returns-in-Refused-clause-buffer c =
-    let a = c.args in
-    (packet_refused a.packet.now a.out.now _ c.read.ensures.report c.in-Refused.is).1.1
+    let told = packet_refused a.packet.now a.out.now _ c.read.ensures.report c.in_err-p.was (passed_on _ c.from_residual.ensures.1) in
+    record { answer = told.0; report = told.1.0; buffer = told.1.1 }

@@ -8,11 +8,10 @@ use Rattle.packet_lines.proofs.put_answer.Goals as goal
 
 pub put_packet-requires : goal.put_packet-requires
 put_packet-requires c =
-    answer_few c.args.packet.now c.in-Packet.p
-    (sym c.read.ensures.answer ∙ c.in-Packet.is)
+    answer_few c.args.packet.now c.in-Ok.p
+    (sym c.read.ensures.answer ∙ c.in-Ok.is)
 
-pub returns-in-Refused-clause-room : goal.returns-in-Refused-clause-room
-returns-in-Refused-clause-room c =
-    let why = c.in-Refused.why in
-    let is = sym c.in-Refused.is ∙ c.read.ensures.answer in
+pub returns-in-Err-clause-room : goal.returns-in-Err-clause-room
+returns-in-Err-clause-room c =
+    let why = c.in-Err.why in
     omega (arith, c.put_refusal.ensures.place, digits_at_most 20 (refusal_number why))

@@ -35,19 +35,16 @@ good_text l kept {n} e h =
 pub put_bytes-requires : goal.put_bytes-requires
 put_bytes-requires c = omega (arith, digits_at_most 20 c.bad_place-place.result)
 
-pub returns-then-place-ne0-clause-text : goal.returns-then-place-ne0-clause-text
+pub returns-then-place-ne0 : goal.returns-then-place-ne0
 unfolding bytes_of bytes_from
-returns-then-place-ne0-clause-text c =
+returns-then-place-ne0 c =
     let args = c.args in
     let n = c.bad_place-place.result in
-    let put = put_then c.put_number-a.ensures c.put_bytes.ensures in put_as (bad_text args.line args.kept.now c.bad_place-place.ensures c.if-place-ne0.true) put
-
-pub returns-then-place-ne0-clause-room : goal.returns-then-place-ne0-clause-room
-unfolding bytes_of bytes_from
-returns-then-place-ne0-clause-room c =
-    let args = c.args in
-    let n = c.bad_place-place.result in
-    let put = put_then c.put_number-a.ensures c.put_bytes.ensures in omega (arith, put.place, digits_at_most 20 n)
+    let put = put_then c.put_number-a.ensures c.put_bytes.ensures in
+    record {
+      text = put_as (bad_text args.line args.kept.now c.bad_place-place.ensures c.if-place-ne0.true) put;
+      room = omega (arith, put.place, digits_at_most 20 n);
+    }
 
 pub returns-clause-text : goal.returns-clause-text
 returns-clause-text c =

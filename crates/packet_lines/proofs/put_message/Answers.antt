@@ -14,18 +14,10 @@ put_text-requires c =
     let few : length (message_text 9 m) ≤ 27 = fits_in_text.message 9 m (unit_told m _ c.well_formed.1.1.0) in
     omega (arith, ap length (text_front c.message.ensures (omega arith)))
 
-pub returns-clause-put : goal.returns-clause-put
-returns-clause-put c =
+pub returns : goal.returns
+returns c =
     let m = c.args.m in
     let few : length (message_text 9 m) ≤ 27 = fits_in_text.message 9 m (unit_told m _ c.well_formed.1.1.0) in
     let fields = put_as (text_front c.message.ensures (omega arith)) c.put_text.ensures in
     let put = put_then c.put_bytes-a.ensures fields in
-    put
-
-pub returns-clause-upper_bound : goal.returns-clause-upper_bound
-returns-clause-upper_bound c =
-    let m = c.args.m in
-    let few : length (message_text 9 m) ≤ 27 = fits_in_text.message 9 m (unit_told m _ c.well_formed.1.1.0) in
-    let fields = put_as (text_front c.message.ensures (omega arith)) c.put_text.ensures in
-    let put = put_then c.put_bytes-a.ensures fields in
-    omega (arith, put.place)
+    record { put = put; upper_bound = omega (arith, put.place) }

@@ -1,5 +1,5 @@
 use mathlib.Core.Path.{sym, ap, ◌∙◌}
-use Prim.Native.Nat.{ℕ, ◌-◌}
+use Prim.Native.Nat.{ℕ}
 use native.Mathlib.Numerals.{add-one}
 use native.Mathlib.Omega.{arith}
 use lib.ListN.{take}
@@ -11,11 +11,11 @@ use Rattle.packet_lines.proofs.put_messages.Goals as goal
 
 pub loop-i-init : goal.loop-i-init
 unfolding fields_of
-loop-i-init c = (omega arith, omega arith, put_none _ _)
+loop-i-init c = (omega arith, put_none _ _)
 
 pub loop-i-preserved : goal.loop-i-preserved
 loop-i-preserved c =
     let l = c.loop-i in
     let ms = c.args.ms in
     let more = ap (λ (k : ℕ). fields_of (take k (listed ms))) (add-one l.i) ∙ fields-more (listed ms) l.i in
-    (omega arith, omega arith, put_as (sym more) (put_then l.invariant.2 c.put_nth-at.ensures.put))
+    (omega arith, put_as (sym more) (put_then l.invariant.1 c.put_nth-at.ensures.put))

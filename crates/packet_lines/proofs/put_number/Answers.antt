@@ -2,7 +2,7 @@
 use mathlib.Core.Path.{◌≡◌}
 use Prim.Native.Nat.{ℕ}
 use native.Mathlib.Omega.{arith}
-use lib.ListN.{length, take}
+use lib.ListN.{take}
 use Rattle.text.specs.Texts.{digits_of, text_of}
 use Rattle.text.specs.declared.Text.{Text}
 use Rattle.text.proofs.PutLaws.{put_as}

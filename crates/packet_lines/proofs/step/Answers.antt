@@ -3,56 +3,31 @@ use borrow.Author.Tests.{lt-ltb, le-ltb, eq-eqb, ne_eqb}
 use Rattle.packet_lines.specs.Lines.{line_after, kept_after}
 use Rattle.packet_lines.proofs.step.Goals as goal
 
-pub returns-then-b-eq13-clause-line : goal.returns-then-b-eq13-clause-line
+pub returns-then-b-eq13 : goal.returns-then-b-eq13
 unfolding line_after kept_after
-returns-then-b-eq13-clause-line c = let r = eq-eqb _ _ c.if-b-eq13.true in simp r
+returns-then-b-eq13 c =
+    let r = eq-eqb _ _ c.if-b-eq13.true in
+    record { line = simp r; kept = simp r }
 
-pub returns-then-b-eq13-clause-kept : goal.returns-then-b-eq13-clause-kept
+pub returns-then-line-ne0 : goal.returns-then-line-ne0
 unfolding line_after kept_after
-returns-then-b-eq13-clause-kept c = let r = eq-eqb _ _ c.if-b-eq13.true in simp r
-
-pub returns-then-line-ne0-clause-line : goal.returns-then-line-ne0-clause-line
-unfolding line_after kept_after
-returns-then-line-ne0-clause-line c =
+returns-then-line-ne0 c =
     let r = ne_eqb _ _ c.if-b-eq13.false in
     let b = ne_eqb _ _ c.if-line-ne0.true in
-    simp (r, b, c.place_after.ensures)
+    record { line = simp (r, b, c.place_after.ensures); kept = simp (r, b) }
 
-pub returns-then-line-ne0-clause-kept : goal.returns-then-line-ne0-clause-kept
+pub returns-then-line-lt16 : goal.returns-then-line-lt16
 unfolding line_after kept_after
-returns-then-line-ne0-clause-kept c =
-    let r = ne_eqb _ _ c.if-b-eq13.false in
-    let b = ne_eqb _ _ c.if-line-ne0.true in
-    simp (r, b)
-
-pub returns-then-line-lt16-clause-line : goal.returns-then-line-lt16-clause-line
-unfolding line_after kept_after
-returns-then-line-lt16-clause-line c =
+returns-then-line-lt16 c =
     let r = ne_eqb _ _ c.if-b-eq13.false in
     let b = eq-eqb _ _ c.if-line-ne0.false in
     let w = lt-ltb _ _ c.if-line-lt16.true in
-    simp (r, b, w, c.second.ensures.value)
+    record { line = simp (r, b, w, c.second.ensures.value); kept = simp (r, b, w, c.second.ensures.kept_after) }
 
-pub returns-then-line-lt16-clause-kept : goal.returns-then-line-lt16-clause-kept
+pub returns : goal.returns
 unfolding line_after kept_after
-returns-then-line-lt16-clause-kept c =
-    let r = ne_eqb _ _ c.if-b-eq13.false in
-    let b = eq-eqb _ _ c.if-line-ne0.false in
-    let w = lt-ltb _ _ c.if-line-lt16.true in
-    simp (r, b, w, c.second.ensures.kept_after)
-
-pub returns-clause-line : goal.returns-clause-line
-unfolding line_after kept_after
-returns-clause-line c =
+returns c =
     let r = ne_eqb _ _ c.if-b-eq13.false in
     let b = eq-eqb _ _ c.if-line-ne0.false in
     let w = le-ltb _ _ c.if-line-lt16.false in
-    simp (r, b, w, c.first.ensures)
-
-pub returns-clause-kept : goal.returns-clause-kept
-unfolding line_after kept_after
-returns-clause-kept c =
-    let r = ne_eqb _ _ c.if-b-eq13.false in
-    let b = eq-eqb _ _ c.if-line-ne0.false in
-    let w = le-ltb _ _ c.if-line-lt16.false in
-    simp (r, b, w)
+    record { line = simp (r, b, w, c.first.ensures); kept = simp (r, b, w) }

@@ -7,34 +7,20 @@ use Rattle.radio.proofs.AnswerLaws.{read_reported}
 use Rattle.radio.proofs.ReaderLaws.{both_hold, one_fails, code_again}
 use Rattle.radio.proofs.read.Goals as goal
 
-pub returns-then-code-ne4-clause-answer : goal.returns-then-code-ne4-clause-answer
+pub returns-then-code-ne4 : goal.returns-then-code-ne4
 unfolding read_answer
-returns-then-code-ne4-clause-answer c = search ladder
+returns-then-code-ne4 c =
+    record { answer = search ladder; report = search ladder }
 
-pub returns-then-code-ne4-clause-report : goal.returns-then-code-ne4-clause-report
+pub returns-then-code-b : goal.returns-then-code-b
 unfolding read_answer
-returns-then-code-ne4-clause-report c = search ladder
+returns-then-code-b c =
+    record { answer = search (ladder, one_fails); report = search (ladder, one_fails) }
 
-pub returns-then-code-b-clause-answer : goal.returns-then-code-b-clause-answer
+pub returns : goal.returns
 unfolding read_answer
-returns-then-code-b-clause-answer c = search (ladder, one_fails)
-
-pub returns-then-code-b-clause-report : goal.returns-then-code-b-clause-report
-unfolding read_answer
-returns-then-code-b-clause-report c = search (ladder, one_fails)
-
-pub returns-clause-answer : goal.returns-clause-answer
-unfolding read_answer
-returns-clause-answer c =
+returns c =
     let code = c.args.code.now in
     let named = c.command_of.ensures ∙ ap named_answer (code_again code c.if-code-ne4.false c.if-code-b.false) in
     let answer : c.command_of.result ≡ read_answer code = search (ladder, both_hold) in
-    answer
-
-pub returns-clause-report : goal.returns-clause-report
-unfolding read_answer
-returns-clause-report c =
-    let code = c.args.code.now in
-    let named = c.command_of.ensures ∙ ap named_answer (code_again code c.if-code-ne4.false c.if-code-b.false) in
-    let answer : c.command_of.result ≡ read_answer code = search (ladder, both_hold) in
-    ap read_report answer ∙ read_reported code
+    record { answer = answer; report = ap read_report answer ∙ read_reported code }

@@ -14,7 +14,3 @@ returns-in-Longer c = simp (c.saying.ensures, sym c.reading.ensures ∙ c.in-Lon
 pub returns-in-Unsupported : goal.returns-in-Unsupported
 unfolding pair_of
 returns-in-Unsupported c = simp (c.saying-in-Unsupported.ensures, c.waits.ensures, sym c.reading.ensures ∙ c.in-Unsupported.is)
-
-pub returns-in-Refused : goal.returns-in-Refused
-unfolding pair_of
-returns-in-Refused c = simp (c.saying-in-Refused.ensures, sym c.reading.ensures ∙ c.in-Refused.is)

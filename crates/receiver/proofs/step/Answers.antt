@@ -13,31 +13,28 @@ numbered : (r : Receiver) (h : ℕ) {o : Heard} → o ≡ step_of r h
     → (o ≡ step_of r h) × (event_number o.event ≡ judged (step_causes r h) (broken_number r h) refusal_number)
 numbered r h e = (e, ap (λ (x : Heard). event_number x.event) e ∙ step_number r h)
 
-pub returns-then-half-gt1-clause-answer : goal.returns-then-half-gt1-clause-answer
+pub returns-then-half-gt1 : goal.returns-then-half-gt1
 unfolding step_of
-returns-then-half-gt1-clause-answer c = let given = c.args in (numbered given.r given.half (search ladder)).0
+returns-then-half-gt1 c =
+    let given = c.args in
+    let owed = numbered given.r given.half {o = c.saying.result} (search ladder) in
+    record { answer = owed.0; number = owed.1 }
 
-pub returns-then-half-gt1-clause-number : goal.returns-then-half-gt1-clause-number
+pub returns-then-not-valid : goal.returns-then-not-valid
 unfolding step_of
-returns-then-half-gt1-clause-number c = let given = c.args in (numbered given.r given.half {o = c.saying.result} (search ladder)).1
-
-pub returns-then-not-valid-clause-answer : goal.returns-then-not-valid-clause-answer
-unfolding step_of
-returns-then-not-valid-clause-answer c = let given = c.args in (numbered given.r given.half (search ladder)).0
-
-pub returns-then-not-valid-clause-number : goal.returns-then-not-valid-clause-number
-unfolding step_of
-returns-then-not-valid-clause-number c = let given = c.args in (numbered given.r given.half {o = c.saying-then-not-valid.result} (search ladder)).1
+returns-then-not-valid c =
+    let given = c.args in
+    let owed = numbered given.r given.half {o = c.saying-then-not-valid.result} (search ladder) in
+    record { answer = owed.0; number = owed.1 }
 
 pub takes-requires : goal.takes-requires
 takes-requires c =
     let ok = sym c.valid.ensures ∙ c.if-not-valid.false in
     (c.if-half-gt1.false, (valid_parts c.args.r ok).0)
 
-pub returns-clause-answer : goal.returns-clause-answer
+pub returns : goal.returns
 unfolding step_of
-returns-clause-answer c = let given = c.args in (numbered given.r given.half (search ladder)).0
-
-pub returns-clause-number : goal.returns-clause-number
-unfolding step_of
-returns-clause-number c = let given = c.args in (numbered given.r given.half {o = c.takes.result} (search ladder)).1
+returns c =
+    let given = c.args in
+    let owed = numbered given.r given.half {o = c.takes.result} (search ladder) in
+    record { answer = owed.0; number = owed.1 }

@@ -1,5 +1,4 @@
 use mathlib.Core.Path.{refl}
-use native.Mathlib.Omega.{arith}
 use Rattle.ground.specs.Records.{all_below}
 use Rattle.ground.proofs.Records.{below_next}
 use Rattle.shutter.specs.Shutters.{shutter_ok}
@@ -9,10 +8,10 @@ use Rattle.shutter_table.proofs.all_ok.Goals as goal
 
 pub loop-e-init : goal.loop-e-init
 unfolding all_below
-loop-e-init c = (omega arith, refl)
+loop-e-init c = refl
 
 pub loop-e-preserved : goal.loop-e-preserved
 loop-e-preserved c =
     let t = c.args.t.now in
     let loop = c.loop-e in
-    (omega arith, rw (loop.invariant.1, c.eight_ok-ok.ensures) (below_next (λ i. shutter_ok (shutter_at t i)) loop.e EIGHT))
+    rw (loop.invariant, c.eight_ok-ok.ensures) (below_next (λ i. shutter_ok (shutter_at t i)) loop.e EIGHT)

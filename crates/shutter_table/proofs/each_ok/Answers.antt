@@ -11,7 +11,7 @@ use Rattle.shutter_table.proofs.each_ok.Goals as goal
 
 pub loop-n-init : goal.loop-n-init
 unfolding all_below
-loop-n-init c = (omega arith, refl)
+loop-n-init c = refl
 
 pub returns-then-not-shutter_ok : goal.returns-then-not-shutter_ok
 returns-then-not-shutter_ok c =
@@ -21,4 +21,4 @@ returns-then-not-shutter_ok c =
 
 pub loop-n-preserved : goal.loop-n-preserved
 unfolding all_below
-loop-n-preserved c = (omega arith, rw (add-one _, c.loop-n.invariant.1) (sym c.shutter_ok.ensures ∙ c.if-not-shutter_ok.false))
+loop-n-preserved c = rw (add-one _, c.loop-n.invariant) (sym c.shutter_ok.ensures ∙ c.if-not-shutter_ok.false)

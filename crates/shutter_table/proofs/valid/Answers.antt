@@ -3,10 +3,12 @@ use borrow.Author.Tests.{eq-eqb, ne_eqb}
 use Rattle.shutter_table.specs.ShutterTable.{shutters_ok}
 use Rattle.shutter_table.proofs.valid.Goals as goal
 
-pub returns-then-t-ne-SHUTTER_TABLE_BYTES : goal.returns-then-t-ne-SHUTTER_TABLE_BYTES
+pub returns-in-None : goal.returns-in-None
 unfolding shutters_ok
-returns-then-t-ne-SHUTTER_TABLE_BYTES c = simp (ne_eqb _ _ c.if-t-ne-SHUTTER_TABLE_BYTES.true)
+returns-in-None c = simp (ne_eqb _ _ c.in-None.ensures.cases)
 
-pub returns : goal.returns
+pub returns-in-Some : goal.returns-in-Some
 unfolding shutters_ok
-returns c = simp (c.all_ok.ensures, eq-eqb _ _ c.if-t-ne-SHUTTER_TABLE_BYTES.false)
+returns-in-Some c =
+    let same = c.in-Some.ensures.cases in
+    simp (c.all_ok.ensures, same.same, eq-eqb _ _ same.long)

@@ -4,15 +4,15 @@ use Rattle.station.specs.Stations.{station_ok, idle_of}
 use Rattle.station.proofs.StateLaws.{idle_empty, idle_holds}
 use Rattle.station.proofs.idle.Goals as goal
 
-pub returns-in-Empty : goal.returns-in-Empty
+pub returns-in-None : goal.returns-in-None
 unfolding idle_of station_ok
-returns-in-Empty c =
+returns-in-None c =
     let s = c.args.s in
-    rw c.in-Empty.is (sym (idle_empty s.wait s.count s.place))
+    rw c.in-None.is (sym (idle_empty s.wait s.count s.place))
 
-pub returns-in-Holds : goal.returns-in-Holds
+pub returns-in-Some : goal.returns-in-Some
 unfolding idle_of station_ok
-returns-in-Holds c =
+returns-in-Some c =
     let s = c.args.s in
-    rw (c.valid.ensures, c.draw_ok.ensures, c.in-Holds.is)
-    (sym (idle_holds c.in-Holds.m s.wait s.count s.place))
+    rw (c.valid.ensures, c.draw_ok.ensures, c.in-Some.is)
+    (sym (idle_holds c.in-Some.m s.wait s.count s.place))

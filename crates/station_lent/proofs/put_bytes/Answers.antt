@@ -5,4 +5,4 @@ use Rattle.station_lent.proofs.put_bytes.Goals as goal
 pub returns : goal.returns
 returns c =
     let a = c.args in
-    station_placed a.s c.five_held-five.result a.state.now c.requires c.five_held-five.ensures
+    station_placed a.s c.five_kept-five.result a.state.now c.requires c.five_kept-five.ensures

@@ -7,29 +7,20 @@ pub returns-then-state-ne-STATION_BYTES : goal.returns-then-state-ne-STATION_BYT
 unfolding station_in
 returns-then-state-ne-STATION_BYTES c = simp (ne_eqb _ _ c.if-state-ne-STATION_BYTES.true) c.no_station.ensures
 
-pub returns-in-Nothing : goal.returns-in-Nothing
+pub returns-in-Ok : goal.returns-in-Ok
 unfolding station_in
-returns-in-Nothing c =
+returns-in-Ok c =
     simp (
       eq-eqb _ _ c.if-state-ne-STATION_BYTES.false,
       ← c.kept_from.ensures.answer,
-      c.in-Nothing.is,
+      c.in-Ok.is,
     ) c.station_with.ensures
 
-pub returns-in-Message : goal.returns-in-Message
+pub returns-in-Err : goal.returns-in-Err
 unfolding station_in
-returns-in-Message c =
+returns-in-Err c =
     simp (
       eq-eqb _ _ c.if-state-ne-STATION_BYTES.false,
       ← c.kept_from.ensures.answer,
-      c.in-Message.is,
-    ) c.station_with-in-Message.ensures
-
-pub returns-in-Refused : goal.returns-in-Refused
-unfolding station_in
-returns-in-Refused c =
-    simp (
-      eq-eqb _ _ c.if-state-ne-STATION_BYTES.false,
-      ← c.kept_from.ensures.answer,
-      c.in-Refused.is,
-    ) c.no_station-in-Refused.ensures
+      c.in-Err.is,
+    ) c.no_station-in-Err.ensures

@@ -1,7 +1,6 @@
--- `hex` meets its contract: what is put into zeros from their front on is the text.
-use mathlib.Core.Path.{◌∙◌}
+-- `hex` meets its contract: what is put into a blank text is the text.
 use Rattle.text.proofs.TextLaws.{text_put}
 use Rattle.text.proofs.hex.Goals as goal
 
 pub returns : goal.returns
-returns c = c.as_text.ensures ∙ text_put c.put_hex-length.ensures
+returns c = text_put c.put_hex.ensures

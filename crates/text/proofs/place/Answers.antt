@@ -1,5 +1,5 @@
--- `place` meets its contract: the letter and then the unit, put into zeros from their front on.
-use mathlib.Core.Path.{ap, ◌∙◌}
+-- `place` meets its contract: the letter and then the unit, put into a blank text.
+use mathlib.Core.Path.{ap}
 use mathlib.Core.List.{[], ◌∷◌}
 use Prim.Native.Nat.{ℕ}
 use Rattle.text.proofs.PutLaws.{put_then, put_as}
@@ -7,6 +7,4 @@ use Rattle.text.proofs.TextLaws.{text_put}
 use Rattle.text.proofs.place.Goals as goal
 
 pub returns : goal.returns
-returns c =
-    c.as_text.ensures
-    ∙ text_put (put_then (put_as (ap (λ (d : ℕ). d ∷ []) c.letter.ensures) c.put_byte-a.ensures) c.put_unit-length.ensures)
+returns c = text_put (put_then (put_as (ap (λ (d : ℕ). d ∷ []) c.letter.ensures) c.put_byte.ensures) c.put_unit.ensures)

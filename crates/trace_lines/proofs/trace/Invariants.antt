@@ -2,13 +2,8 @@
 -- (`Going`); it ends where the definition takes no further byte.
 use mathlib.Core.Path.{◌≡◌}
 use mathlib.Core.Bool.{false}
-use Prim.Native.Nat.{◌-◌}
-use lib.ListN.{length}
 use Rattle.trace_lines.proofs.TraceLaws.{Going}
 use Rattle.trace_lines.proofs.trace.Given as goal
 
 abbrev pub invariant-loop-i : goal.invariant-loop-i
 invariant-loop-i l = Going l.input l.initial.out l.initial.q l.out l.q l.at l.i × (l.q.stopped ≡ false)
-
-abbrev pub decreases-loop-i : goal.decreases-loop-i
-decreases-loop-i l = length l.input - l.i

@@ -1,80 +1,47 @@
 -- `kept_from` meets its contract: its tests are the definition's, in the same order.
 use Rattle.ground.specs.declared.Refusal.TheVariants.{State}
-use Rattle.wire.specs.declared.KeptRead.TheVariants.{Nothing, Message, Refused}
+use Rattle.std.specs.Prelude.{Ok, Err, Some, None}
 use Rattle.wire.specs.Messages.{kept_from}
 use Rattle.wire.proofs.MessageLaws.{kept_reported}
 use Rattle.wire.proofs.kept_from.Goals as goal
 
-pub returns-then-kind-house-clause-answer : goal.returns-then-kind-house-clause-answer
+pub returns-then-kind-house : goal.returns-then-kind-house
 unfolding kept_from
-returns-then-kind-house-clause-answer c =
+returns-then-kind-house c =
     let a = c.args in
-    (kept_reported a.kind a.house a.third a.data a.command (simp c.if-kind-house.true)).0
+    let owed = kept_reported a.kind a.house a.third a.data a.command {o = Ok None} (simp c.if-kind-house.true) in
+    record { answer = owed.0; number = owed.1 }
 
-pub returns-then-kind-house-clause-number : goal.returns-then-kind-house-clause-number
+pub returns-then-not-kind-ends : goal.returns-then-not-kind-ends
 unfolding kept_from
-returns-then-kind-house-clause-number c =
+returns-then-not-kind-ends c =
     let a = c.args in
-    (kept_reported a.kind a.house a.third a.data a.command {o = Nothing} (simp c.if-kind-house.true)).1
+    let owed = kept_reported a.kind a.house a.third a.data a.command {o = Err State}
+    (simp (c.if-kind-house.false, c.if-not-kind-ends.true)) in
+    record { answer = owed.0; number = owed.1 }
 
-pub returns-then-not-kind-ends-clause-answer : goal.returns-then-not-kind-ends-clause-answer
+pub returns-in-Ok : goal.returns-in-Ok
 unfolding kept_from
-returns-then-not-kind-ends-clause-answer c =
+returns-in-Ok c =
     let a = c.args in
-    (kept_reported a.kind a.house a.third a.data a.command
-    (simp (c.if-kind-house.false, c.if-not-kind-ends.true))).0
-
-pub returns-then-not-kind-ends-clause-number : goal.returns-then-not-kind-ends-clause-number
-unfolding kept_from
-returns-then-not-kind-ends-clause-number c =
-    let a = c.args in
-    (kept_reported a.kind a.house a.third a.data a.command {o = Refused State}
-    (simp (c.if-kind-house.false, c.if-not-kind-ends.true))).1
-
-pub returns-in-Message-clause-answer : goal.returns-in-Message-clause-answer
-unfolding kept_from
-returns-in-Message-clause-answer c =
-    let a = c.args in
-    (kept_reported a.kind a.house a.third a.data a.command
+    let owed = kept_reported a.kind a.house a.third a.data a.command {o = Ok (Some c.in-Ok.m)}
     (simp (
       c.if-kind-house.false,
       c.if-not-kind-ends.false,
       ← c.message_from.ensures.answer,
-      c.in-Message.is,
-    ))).0
+      c.in-Ok.is,
+    )) in
+    record { answer = owed.0; number = owed.1 }
 
-pub returns-in-Message-clause-number : goal.returns-in-Message-clause-number
+pub returns-in-Err : goal.returns-in-Err
 unfolding kept_from
-returns-in-Message-clause-number c =
+returns-in-Err c =
     let a = c.args in
-    (kept_reported a.kind a.house a.third a.data a.command {o = Message c.in-Message.m}
+    let owed = kept_reported a.kind a.house a.third a.data a.command {o = Err State}
     (simp (
       c.if-kind-house.false,
       c.if-not-kind-ends.false,
       ← c.message_from.ensures.answer,
-      c.in-Message.is,
-    ))).1
-
-pub returns-in-Refused-clause-answer : goal.returns-in-Refused-clause-answer
-unfolding kept_from
-returns-in-Refused-clause-answer c =
-    let a = c.args in
-    (kept_reported a.kind a.house a.third a.data a.command
-    (simp (
-      c.if-kind-house.false,
-      c.if-not-kind-ends.false,
-      ← c.message_from.ensures.answer,
-      c.in-Refused.is,
-    ))).0
-
-pub returns-in-Refused-clause-number : goal.returns-in-Refused-clause-number
-unfolding kept_from
-returns-in-Refused-clause-number c =
-    let a = c.args in
-    (kept_reported a.kind a.house a.third a.data a.command {o = Refused State}
-    (simp (
-      c.if-kind-house.false,
-      c.if-not-kind-ends.false,
-      ← c.message_from.ensures.answer,
-      c.in-Refused.is,
-    ))).1
+      c.in-Err.is,
+    )) in
+    record { answer = owed.0; number = owed.1 }

@@ -1,65 +1,38 @@
 -- `write_code` meets its contract: what the writer refuses, then the room, then four stores.
+use Rattle.std.specs.Prelude.{Result, Err}
 use mathlib.Core.Path.{sym, ap, ◌∙◌}
-use mathlib.Core.List.{List, [], ◌∷◌}
+use mathlib.Core.List.{List, ◌++◌}
+use lib.ListN.{drop}
 use Prim.Native.Nat.{ℕ}
-use Rattle.ground.specs.declared.CountAnswer.TheVariants.{Refused}
 use Rattle.ground.proofs.Causes.{ladder}
-use Rattle.ground.proofs.Lists.{sets-front}
+use Rattle.ground.proofs.Passed.{passed_on}
+use Rattle.ground.specs.declared.Refusal.{Refusal}
 use Rattle.radio.specs.Answers.{write_report}
-use Rattle.x10.specs.Radio.{front, code_answer, code_after}
+use Rattle.x10.specs.Radio.{code_answer, code_after}
 use Rattle.x10.proofs.Fronts.{wrote, not_written}
 use Rattle.x10.proofs.write_code.Goals as goal
 
-pub returns-then-out-lt4-clause-value : goal.returns-then-out-lt4-clause-value
+pub returns-then-out-lt4 : goal.returns-then-out-lt4
 unfolding code_answer code_after
-returns-then-out-lt4-clause-value c =
-    let did = wrote c.args.k (c.in-Bytes.b ∷ c.in-Bytes.x ∷ c.in-Bytes.c ∷ c.in-Bytes.y ∷ []) (sym
-    (ap write_report c.in-Bytes.is) ∙ c.write.ensures.report) in
+returns-then-out-lt4 c =
+    let did = wrote c.args.k c.in_ok-code.code (sym (ap write_report c.in_ok-code.was) ∙ c.write.ensures.report) in
     let ok = did.0 in
-    search ladder
+    record { value = search ladder; out_after = search ladder }
 
-pub returns-then-out-lt4-clause-out_after : goal.returns-then-out-lt4-clause-out_after
+pub returns : goal.returns
 unfolding code_answer code_after
-returns-then-out-lt4-clause-out_after c =
-    let did = wrote c.args.k (c.in-Bytes.b ∷ c.in-Bytes.x ∷ c.in-Bytes.c ∷ c.in-Bytes.y ∷ []) (sym
-    (ap write_report c.in-Bytes.is) ∙ c.write.ensures.report) in
-    let ok = did.0 in
-    search ladder
-
-pub returns-else-out-lt4-clause-value : goal.returns-else-out-lt4-clause-value
-unfolding code_answer code_after
-returns-else-out-lt4-clause-value c =
-    let xs : List ℕ = c.in-Bytes.b ∷ c.in-Bytes.x ∷ c.in-Bytes.c ∷ c.in-Bytes.y ∷ [] in
+returns c =
     let out = c.args.out.now in
-    let did = wrote c.args.k xs (sym (ap write_report c.in-Bytes.is)
-    ∙ c.write.ensures.report) in
+    let did = wrote c.args.k c.in_ok-code.code (sym (ap write_report c.in_ok-code.was) ∙ c.write.ensures.report) in
     let ok = did.0 in
-    let put = sets-front xs out c.if-out-lt4.false ∙ ap (λ (l : List ℕ). front l out) did.1 in
-    search ladder
+    let long = c.if-out-lt4.false in
+    let put = ap (λ (l : List ℕ). l ++ drop 4 out) (c.copy_from_slice.ensures.after ∙ did.1) in
+    record { value = search ladder; out_after = search ladder }
 
-pub returns-else-out-lt4-clause-out_after : goal.returns-else-out-lt4-clause-out_after
+pub returns-in_err-code : goal.returns-in_err-code
 unfolding code_answer code_after
-returns-else-out-lt4-clause-out_after c =
-    let xs : List ℕ = c.in-Bytes.b ∷ c.in-Bytes.x ∷ c.in-Bytes.c ∷ c.in-Bytes.y ∷ [] in
-    let out = c.args.out.now in
-    let did = wrote c.args.k xs (sym (ap write_report c.in-Bytes.is)
-    ∙ c.write.ensures.report) in
-    let ok = did.0 in
-    let put = sets-front xs out c.if-out-lt4.false ∙ ap (λ (l : List ℕ). front l out) did.1 in
-    search ladder
-
-pub returns-in-Refused-clause-value : goal.returns-in-Refused-clause-value
-unfolding code_answer code_after
-returns-in-Refused-clause-value c =
-    let none = not_written c.args.k c.in-Refused.why (sym c.write.ensures.answer ∙ c.in-Refused.is) in
+returns-in_err-code c =
+    let none = not_written c.args.k _ (sym c.write.ensures.answer ∙ c.in_err-code.was) in
     let bad-command = none.0 in
-    let answer = ap Refused none.1 in
-    search ladder
-
-pub returns-in-Refused-clause-out_after : goal.returns-in-Refused-clause-out_after
-unfolding code_answer code_after
-returns-in-Refused-clause-out_after c =
-    let none = not_written c.args.k c.in-Refused.why (sym c.write.ensures.answer ∙ c.in-Refused.is) in
-    let bad-command = none.0 in
-    let answer = ap Refused none.1 in
-    search ladder
+    let answer = passed_on _ c.from_residual.ensures.1 ∙ ap {B = Result ℕ Refusal} Err none.1 in
+    record { value = search ladder; out_after = search ladder }

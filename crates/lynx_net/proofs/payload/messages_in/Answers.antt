@@ -7,23 +7,18 @@ use Rattle.lynx_net.proofs.FormLaws.{too_short, payload_length}
 use Rattle.lynx_net.proofs.ListLaws.{answered, not_answered}
 use Rattle.lynx_net.proofs.payload.messages_in.Goals as goal
 
-pub returns-then-payload-lt2-clause-answer : goal.returns-then-payload-lt2-clause-answer
-returns-then-payload-lt2-clause-answer c = let p = c.args.payload.now in (not_answered p (too_short p c.if-payload-lt2.true (form_in p))).0
+pub returns-then-payload-lt2 : goal.returns-then-payload-lt2
+returns-then-payload-lt2 c =
+    let p = c.args.payload.now in
+    let owed = not_answered p (too_short p c.if-payload-lt2.true (form_in p)) in
+    record { answer = owed.0; report = owed.1 }
 
-pub returns-then-payload-lt2-clause-report : goal.returns-then-payload-lt2-clause-report
-returns-then-payload-lt2-clause-report c = let p = c.args.payload.now in (not_answered p (too_short p c.if-payload-lt2.true (form_in p))).1
-
-pub returns-then-not-fits_form-clause-answer : goal.returns-then-not-fits_form-clause-answer
-returns-then-not-fits_form-clause-answer c =
+pub returns-then-not-fits_form : goal.returns-then-not-fits_form
+returns-then-not-fits_form c =
     let p = c.args.payload.now in
     let bad = sym (c.fits_form.ensures ∙ ap (λ (f : Form). fits_form f p) c.form_of-form.ensures) ∙ c.if-not-fits_form.true in
-    (not_answered p bad).0
-
-pub returns-then-not-fits_form-clause-report : goal.returns-then-not-fits_form-clause-report
-returns-then-not-fits_form-clause-report c =
-    let p = c.args.payload.now in
-    let bad = sym (c.fits_form.ensures ∙ ap (λ (f : Form). fits_form f p) c.form_of-form.ensures) ∙ c.if-not-fits_form.true in
-    (not_answered p bad).1
+    let owed = not_answered p bad in
+    record { answer = owed.0; report = owed.1 }
 
 pub held_by-requires : goal.held_by-requires
 held_by-requires c =
@@ -32,18 +27,11 @@ held_by-requires c =
     let ok : payload_ok p ≡ true = sym (ap (λ (f : Form). fits_form f p) c.form_of-form.ensures) ∙ fits in
     (payload_length p ok, fits)
 
-pub returns-clause-answer : goal.returns-clause-answer
-returns-clause-answer c =
+pub returns : goal.returns
+returns c =
     let p = c.args.payload.now in
     let form = c.form_of-form.ensures in
     let ok : payload_ok p ≡ true =
     sym (ap (λ (f : Form). fits_form f p) form) ∙ sym c.fits_form.ensures ∙ c.if-not-fits_form.false in
-    (answered p ok (c.held_by.ensures ∙ ap (λ (f : Form). held_by f p) form)).0
-
-pub returns-clause-report : goal.returns-clause-report
-returns-clause-report c =
-    let p = c.args.payload.now in
-    let form = c.form_of-form.ensures in
-    let ok : payload_ok p ≡ true =
-    sym (ap (λ (f : Form). fits_form f p) form) ∙ sym c.fits_form.ensures ∙ c.if-not-fits_form.false in
-    (answered p ok (c.held_by.ensures ∙ ap (λ (f : Form). held_by f p) form)).1
+    let owed = answered p ok (c.held_by.ensures ∙ ap (λ (f : Form). held_by f p) form) in
+    record { answer = owed.0; report = owed.1 }

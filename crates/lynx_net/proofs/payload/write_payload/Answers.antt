@@ -1,93 +1,44 @@
--- `write_payload` meets its contract: its tests are its first two causes, and what is left is that of the arm's callee.
-use Rattle.std.proofs.Common.{sym, ◌∙◌}
+-- `write_payload` meets its contract: its tests are its first two causes, and in each arm the bytes are the message's payload.
+use Rattle.std.proofs.Common.{ℕ, ◌+◌, [], ◌∷◌, sym, ap, ◌∙◌}
 use Rattle.ground.proofs.Causes.{ladder}
+use Rattle.lynx_net.specs.Payloads.{payload_of, CLOSE}
 use Rattle.lynx_net.specs.Packets.{alone_answer, alone_after}
 use Rattle.lynx_net.proofs.PacketLaws.{alone_written}
 use Rattle.lynx_net.proofs.payload.write_payload.Goals as goal
 
-pub returns-then-not-valid-clause-answer : goal.returns-then-not-valid-clause-answer
+pub returns-then-not-valid : goal.returns-then-not-valid
 unfolding alone_answer alone_after
-returns-then-not-valid-clause-answer c = search ladder
+returns-then-not-valid c =
+    record { answer = search ladder; report = search ladder; buffer = search ladder }
 
-pub returns-then-not-valid-clause-report : goal.returns-then-not-valid-clause-report
+pub returns-then-not-has_payload : goal.returns-then-not-has_payload
 unfolding alone_answer alone_after
-returns-then-not-valid-clause-report c = search ladder
+returns-then-not-has_payload c =
+    record { answer = search ladder; report = search ladder; buffer = search ladder }
 
-pub returns-then-not-valid-clause-buffer : goal.returns-then-not-valid-clause-buffer
-unfolding alone_answer alone_after
-returns-then-not-valid-clause-buffer c = search ladder
-
-pub returns-then-not-has_payload-clause-answer : goal.returns-then-not-has_payload-clause-answer
-unfolding alone_answer alone_after
-returns-then-not-has_payload-clause-answer c = search ladder
-
-pub returns-then-not-has_payload-clause-report : goal.returns-then-not-has_payload-clause-report
-unfolding alone_answer alone_after
-returns-then-not-has_payload-clause-report c = search ladder
-
-pub returns-then-not-has_payload-clause-buffer : goal.returns-then-not-has_payload-clause-buffer
-unfolding alone_answer alone_after
-returns-then-not-has_payload-clause-buffer c = search ladder
-
-pub returns-in-Address-clause-answer : goal.returns-in-Address-clause-answer
-returns-in-Address-clause-answer c =
+pub returns-in-Address : goal.returns-in-Address
+returns-in-Address c =
     let a = c.args in
     let valid = sym c.valid.ensures ∙ c.if-not-valid.false in
     let has = sym c.has_payload.ensures ∙ c.if-not-has_payload.false in
-    (alone_written a.m _ a.buf.now c.in-Address.is valid has c.write_address.ensures.value c.write_address.ensures.buf_after).0
+    let is = ap payload_of (sym c.in-Address.is) in
+    let owed = alone_written a.m _ a.buf.now is valid has c.put_front.ensures.value c.put_front.ensures.buf_after in
+    record { answer = owed.0; report = owed.1.0; buffer = owed.1.1 }
 
-pub returns-in-Address-clause-report : goal.returns-in-Address-clause-report
-returns-in-Address-clause-report c =
+pub returns-in-Function : goal.returns-in-Function
+returns-in-Function c =
     let a = c.args in
     let valid = sym c.valid.ensures ∙ c.if-not-valid.false in
     let has = sym c.has_payload.ensures ∙ c.if-not-has_payload.false in
-    (alone_written a.m _ a.buf.now c.in-Address.is valid has c.write_address.ensures.value c.write_address.ensures.buf_after).1.0
+    let is = ap (λ (k : ℕ). (0x10 + k) ∷ c.in-Function.house ∷ CLOSE ∷ []) c.function_code.ensures ∙ ap payload_of (sym c.in-Function.is) in
+    let owed = alone_written a.m _ a.buf.now is valid has c.put_front-in-Function.ensures.value c.put_front-in-Function.ensures.buf_after in
+    record { answer = owed.0; report = owed.1.0; buffer = owed.1.1 }
 
-pub returns-in-Address-clause-buffer : goal.returns-in-Address-clause-buffer
-returns-in-Address-clause-buffer c =
+pub returns-in-Extended : goal.returns-in-Extended
+returns-in-Extended c =
     let a = c.args in
     let valid = sym c.valid.ensures ∙ c.if-not-valid.false in
     let has = sym c.has_payload.ensures ∙ c.if-not-has_payload.false in
-    (alone_written a.m _ a.buf.now c.in-Address.is valid has c.write_address.ensures.value c.write_address.ensures.buf_after).1.1
-
-pub returns-in-Function-clause-answer : goal.returns-in-Function-clause-answer
-returns-in-Function-clause-answer c =
-    let a = c.args in
-    let valid = sym c.valid.ensures ∙ c.if-not-valid.false in
-    let has = sym c.has_payload.ensures ∙ c.if-not-has_payload.false in
-    (alone_written a.m _ a.buf.now c.in-Function.is valid has c.write_function.ensures.value c.write_function.ensures.buf_after).0
-
-pub returns-in-Function-clause-report : goal.returns-in-Function-clause-report
-returns-in-Function-clause-report c =
-    let a = c.args in
-    let valid = sym c.valid.ensures ∙ c.if-not-valid.false in
-    let has = sym c.has_payload.ensures ∙ c.if-not-has_payload.false in
-    (alone_written a.m _ a.buf.now c.in-Function.is valid has c.write_function.ensures.value c.write_function.ensures.buf_after).1.0
-
-pub returns-in-Function-clause-buffer : goal.returns-in-Function-clause-buffer
-returns-in-Function-clause-buffer c =
-    let a = c.args in
-    let valid = sym c.valid.ensures ∙ c.if-not-valid.false in
-    let has = sym c.has_payload.ensures ∙ c.if-not-has_payload.false in
-    (alone_written a.m _ a.buf.now c.in-Function.is valid has c.write_function.ensures.value c.write_function.ensures.buf_after).1.1
-
-pub returns-in-Extended-clause-answer : goal.returns-in-Extended-clause-answer
-returns-in-Extended-clause-answer c =
-    let a = c.args in
-    let valid = sym c.valid.ensures ∙ c.if-not-valid.false in
-    let has = sym c.has_payload.ensures ∙ c.if-not-has_payload.false in
-    (alone_written a.m _ a.buf.now c.in-Extended.is valid has c.write_extended.ensures.value c.write_extended.ensures.buf_after).0
-
-pub returns-in-Extended-clause-report : goal.returns-in-Extended-clause-report
-returns-in-Extended-clause-report c =
-    let a = c.args in
-    let valid = sym c.valid.ensures ∙ c.if-not-valid.false in
-    let has = sym c.has_payload.ensures ∙ c.if-not-has_payload.false in
-    (alone_written a.m _ a.buf.now c.in-Extended.is valid has c.write_extended.ensures.value c.write_extended.ensures.buf_after).1.0
-
-pub returns-in-Extended-clause-buffer : goal.returns-in-Extended-clause-buffer
-returns-in-Extended-clause-buffer c =
-    let a = c.args in
-    let valid = sym c.valid.ensures ∙ c.if-not-valid.false in
-    let has = sym c.has_payload.ensures ∙ c.if-not-has_payload.false in
-    (alone_written a.m _ a.buf.now c.in-Extended.is valid has c.write_extended.ensures.value c.write_extended.ensures.buf_after).1.1
+    let is = ap payload_of (sym c.in-Extended.is) in
+    let owed = alone_written a.m _ a.buf.now is valid has c.put_front-in-Extended.ensures.value c.put_front-in-Extended.ensures.buf_after in
+    record { answer = owed.0; report = owed.1.0; buffer = owed.1.1 }

@@ -4,26 +4,17 @@ use Rattle.ground.specs.Refusals.{judged}
 use Rattle.message.specs.Codes.{function_answer}
 use Rattle.message.proofs.codes.function_at.Goals as goal
 
-pub returns-in-Function-clause-answer : goal.returns-in-Function-clause-answer
+pub returns-in-Function : goal.returns-in-Function
 unfolding function_answer judged
-returns-in-Function-clause-answer c = simp (sym c.meaning_at.ensures ∙ c.in-Function.is) (refl)
+returns-in-Function c =
+    record { answer = simp (sym c.meaning_at.ensures ∙ c.in-Function.is) (refl); number = simp (sym c.meaning_at.ensures ∙ c.in-Function.is) (refl) }
 
-pub returns-in-Function-clause-number : goal.returns-in-Function-clause-number
+pub returns-in-Extended : goal.returns-in-Extended
 unfolding function_answer judged
-returns-in-Function-clause-number c = simp (sym c.meaning_at.ensures ∙ c.in-Function.is) (refl)
+returns-in-Extended c =
+    record { answer = simp (sym c.meaning_at.ensures ∙ c.in-Extended.is) (refl); number = simp (sym c.meaning_at.ensures ∙ c.in-Extended.is) (refl) }
 
-pub returns-in-Extended-clause-answer : goal.returns-in-Extended-clause-answer
+pub returns-in-Unsupported : goal.returns-in-Unsupported
 unfolding function_answer judged
-returns-in-Extended-clause-answer c = simp (sym c.meaning_at.ensures ∙ c.in-Extended.is) (refl)
-
-pub returns-in-Extended-clause-number : goal.returns-in-Extended-clause-number
-unfolding function_answer judged
-returns-in-Extended-clause-number c = simp (sym c.meaning_at.ensures ∙ c.in-Extended.is) (refl)
-
-pub returns-in-Unsupported-clause-answer : goal.returns-in-Unsupported-clause-answer
-unfolding function_answer judged
-returns-in-Unsupported-clause-answer c = simp (sym c.meaning_at.ensures ∙ c.in-Unsupported.is) (refl)
-
-pub returns-in-Unsupported-clause-number : goal.returns-in-Unsupported-clause-number
-unfolding function_answer judged
-returns-in-Unsupported-clause-number c = simp (sym c.meaning_at.ensures ∙ c.in-Unsupported.is) (refl)
+returns-in-Unsupported c =
+    record { answer = simp (sym c.meaning_at.ensures ∙ c.in-Unsupported.is) (refl); number = simp (sym c.meaning_at.ensures ∙ c.in-Unsupported.is) (refl) }

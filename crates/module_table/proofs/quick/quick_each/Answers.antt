@@ -11,7 +11,7 @@ use Rattle.module_table.proofs.quick.quick_each.Goals as goal
 
 pub loop-n-init : goal.loop-n-init
 unfolding all_below sum_below
-loop-n-init c = (omega arith, omega arith, (λ e. refl), refl)
+loop-n-init c = (omega arith, (λ e. refl), refl)
 
 pub loop-n-preserved : goal.loop-n-preserved
 loop-n-preserved c =
@@ -23,9 +23,8 @@ loop-n-preserved c =
     let p = c.word_at in
     let s = c.word_at-in-loop-n in
     let is = in_words t i w.result p.result s.result w.ensures p.ensures s.ensures in (
-      omega arith,
-      omega (arith, c.choose-lit.ensures, one_at_most (eqb (w.result / 256 % 256) 0), loop.invariant.1),
-      quick_next args.house t loop.n loop.bad c.faults-bad.result loop.invariant.2 (c.faults-bad.ensures (record_at t i) is),
-      lit_next t args.house loop.n loop.lit c.choose-lit.result loop.invariant.3
+      omega (arith, c.choose-lit.ensures, one_at_most (eqb (w.result / 256 % 256) 0), loop.invariant.0),
+      quick_next args.house t loop.n loop.bad c.faults-bad.result loop.invariant.1 (c.faults-bad.ensures (record_at t i) is),
+      lit_next t args.house loop.n loop.lit c.choose-lit.result loop.invariant.2
           (word_lit (record_at t i) w.result p.result s.result c.choose-lit.result is c.choose-lit.ensures),
     )

@@ -5,32 +5,20 @@ use Rattle.receiver.specs.Bytes.{receiver_bytes, put_answer, put_after}
 use Rattle.receiver.proofs.ReceiverLaws.{fresh_is_valid}
 use Rattle.receiver.proofs.lent.fresh.Goals as goal
 
-pub returns-then-state-ne13-clause-answer : goal.returns-then-state-ne13-clause-answer
+pub returns-then-state-ne13 : goal.returns-then-state-ne13
 unfolding put_answer put_after
-returns-then-state-ne13-clause-answer c = search ladder
+returns-then-state-ne13 c =
+    record { answer = search ladder; report = search ladder; state = search ladder }
 
-pub returns-then-state-ne13-clause-report : goal.returns-then-state-ne13-clause-report
+pub returns : goal.returns
 unfolding put_answer put_after
-returns-then-state-ne13-clause-report c = search ladder
-
-pub returns-then-state-ne13-clause-state : goal.returns-then-state-ne13-clause-state
-unfolding put_answer put_after
-returns-then-state-ne13-clause-state c = search ladder
-
-pub returns-clause-answer : goal.returns-clause-answer
-unfolding put_answer put_after
-returns-clause-answer c =
-    let ok = fresh_is_valid in let put = c.put_bytes.ensures
-    ∙ ap receiver_bytes c.fresh.ensures in search ladder
-
-pub returns-clause-report : goal.returns-clause-report
-unfolding put_answer put_after
-returns-clause-report c =
-    let ok = fresh_is_valid in let put = c.put_bytes.ensures
-    ∙ ap receiver_bytes c.fresh.ensures in search ladder
-
-pub returns-clause-state : goal.returns-clause-state
-unfolding put_answer put_after
-returns-clause-state c =
-    let ok = fresh_is_valid in let put = c.put_bytes.ensures
-    ∙ ap receiver_bytes c.fresh.ensures in search ladder
+returns c =
+    let ok = fresh_is_valid in
+    record {
+      answer = let put = c.put_bytes.ensures
+          ∙ ap receiver_bytes c.fresh.ensures in search ladder;
+      report = let put = c.put_bytes.ensures
+          ∙ ap receiver_bytes c.fresh.ensures in search ladder;
+      state = let put = c.put_bytes.ensures
+          ∙ ap receiver_bytes c.fresh.ensures in search ladder;
+    }

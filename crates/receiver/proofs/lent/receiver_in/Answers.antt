@@ -1,54 +1,39 @@
 -- `receiver_in` meets its contract: thirteen bytes, and then what those of the message given before say.
-use mathlib.Core.Path.{sym, ◌∙◌}
+use Rattle.std.specs.Prelude.{Result, Err}
+use mathlib.Core.Path.{sym, ap, ◌∙◌}
 use borrow.Author.Tests.{eq-eqb}
 use Rattle.ground.specs.Refusals.{judged}
 use Rattle.ground.proofs.Causes.{ladder}
+use Rattle.ground.proofs.Passed.{passed_on}
+use Rattle.ground.specs.declared.Refusal.{Refusal}
 use Rattle.ground.specs.declared.Refusal.TheVariants.{State}
-use Rattle.receiver.specs.declared.lent.ReceiverRead.TheVariants.{Refused}
 use Rattle.receiver.specs.Bytes.{receiver_in}
+use Rattle.receiver.specs.declared.Receiver.{Receiver}
+use Rattle.wire.proofs.MessageLaws.{kept_refused}
 use Rattle.receiver.proofs.ReadBack.{held_number}
 use Rattle.receiver.proofs.lent.receiver_in.Goals as goal
 
-pub returns-then-state-ne13-clause-answer : goal.returns-then-state-ne13-clause-answer
+pub returns-then-state-ne13 : goal.returns-then-state-ne13
 unfolding receiver_in
-returns-then-state-ne13-clause-answer c = (held_number c.args.state.now (search ladder)).0
+returns-then-state-ne13 c =
+    let owed = held_number c.args.state.now {o = Err State} (search ladder) in
+    record { answer = owed.0; number = owed.1 }
 
-pub returns-then-state-ne13-clause-number : goal.returns-then-state-ne13-clause-number
-unfolding receiver_in
-returns-then-state-ne13-clause-number c = (held_number c.args.state.now {o = Refused State} (search ladder)).1
-
-pub returns-in-Given-clause-answer : goal.returns-in-Given-clause-answer
+pub returns : goal.returns
 unfolding receiver_in judged
-returns-in-Given-clause-answer c =
-    (held_number c.args.state.now (simp (
+returns c =
+    let both = held_number c.args.state.now {o = c.taken.result} (simp (
       eq-eqb _ _ c.if-state-ne13.false,
-      sym c.given_from.ensures ∙ c.in-Given.is,
+      sym c.kept_from.ensures.answer ∙ c.in_ok-given.was,
       sym c.number_of-bits.ensures,
       sym c.place_from-at.ensures,
-    ) c.taken.ensures)).0
+    ) c.taken.ensures) in
+    record { answer = both.0; number = both.1 }
 
-pub returns-in-Given-clause-number : goal.returns-in-Given-clause-number
+pub returns-in_err-given : goal.returns-in_err-given
 unfolding receiver_in judged
-returns-in-Given-clause-number c =
-    (held_number c.args.state.now (simp (
-      eq-eqb _ _ c.if-state-ne13.false,
-      sym c.given_from.ensures ∙ c.in-Given.is,
-      sym c.number_of-bits.ensures,
-      sym c.place_from-at.ensures,
-    ) c.taken.ensures)).1
-
-pub returns-in-Refused-clause-answer : goal.returns-in-Refused-clause-answer
-unfolding receiver_in judged
-returns-in-Refused-clause-answer c =
-    (held_number c.args.state.now (simp (
-      eq-eqb _ _ c.if-state-ne13.false,
-      sym c.given_from.ensures ∙ c.in-Refused.is,
-    ))).0
-
-pub returns-in-Refused-clause-number : goal.returns-in-Refused-clause-number
-unfolding receiver_in judged
-returns-in-Refused-clause-number c =
-    (held_number c.args.state.now {o = Refused State} (simp (
-      eq-eqb _ _ c.if-state-ne13.false,
-      sym c.given_from.ensures ∙ c.in-Refused.is,
-    ))).1
+returns-in_err-given c =
+    let kept = sym c.kept_from.ensures.answer ∙ c.in_err-given.was in
+    let passed = passed_on _ c.from_residual.ensures.1 ∙ ap {B = Result Receiver Refusal} Err (kept_refused _ _ _ _ _ kept) in
+    let both = held_number c.args.state.now {o = c.from_residual.result} (simp (eq-eqb _ _ c.if-state-ne13.false, kept) passed) in
+    record { answer = both.0; number = both.1 }

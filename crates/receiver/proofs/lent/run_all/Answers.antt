@@ -34,16 +34,13 @@ loop-i-preserved c =
       t.2 ∙ now.invariant.4,
     )
 
-pub returns-clause-value : goal.returns-clause-value
+pub returns : goal.returns
 unfolding flat_map events_of receiver_after
-returns-clause-value c =
+returns c =
     let now = c.loop-i in
     let halves = c.args.halves.now in
-    let none : drop now.i halves ≡ _ = drop_of_length-le halves c.loop-i-test.false in ap (receiver_after now.current) (sym none) ∙ now.invariant.3
-
-pub returns-clause-events_after : goal.returns-clause-events_after
-unfolding flat_map events_of receiver_after
-returns-clause-events_after c =
-    let now = c.loop-i in
-    let halves = c.args.halves.now in
-    let none : drop now.i halves ≡ _ = drop_of_length-le halves c.loop-i-test.false in ap (λ (l : List ℕ). sets now.events (6 * now.i) (flat_map event_bytes (events_of now.current l))) (sym none) ∙ now.invariant.4
+    let none : drop now.i halves ≡ _ = drop_of_length-le halves c.loop-i-test.false in
+    record {
+      value = ap (receiver_after now.current) (sym none) ∙ now.invariant.3;
+      events_after = ap (λ (l : List ℕ). sets now.events (6 * now.i) (flat_map event_bytes (events_of now.current l))) (sym none) ∙ now.invariant.4;
+    }

@@ -12,5 +12,5 @@ pub returns : goal.returns
 unfolding step_record
 returns c =
     let a = c.args in
-    λ own. c.choose_groups.ensures ∙ ap (λ (q : Groups). pick (eqb a.r.kind 0) a.r.groups q) (c.act_groups.ensures own)
+    λ own. c.choose.ensures ∙ ap (λ (q : Groups). pick (eqb a.r.kind 0) a.r.groups q) (c.act_groups.ensures own)
     ∙ part_after (eqb a.r.kind 0) (λ (q : Record). q.groups) (acted a.act own a.n a.r) a.r

@@ -23,4 +23,4 @@ returns c =
     let a = c.args in
     c.regrouped.ensures
     ∙ regroup_ext _ _
-    (λ k below. told a.g k _ a.x _ a.reference (membership k a.groups) below c.only.ensures.0 c.lower.ensures)
+    (λ k below. told a.g k _ a.x _ a.reference (membership k a.groups) below c.only.ensures.0 c.min.ensures)

@@ -32,7 +32,7 @@ small b x y low e = rw e (pick_both (λ z. z ≤ 8) b y 0 low (omega arith))
 
 pub loop-k-init : goal.loop-k-init
 unfolding sum_below filled
-loop-k-init c = (omega arith, omega arith, refl, refl, refl)
+loop-k-init c = (omega arith, refl, refl, refl)
 
 pub loop-k-preserved : goal.loop-k-preserved
 loop-k-preserved c =
@@ -41,11 +41,10 @@ loop-k-preserved c =
     let f : ℕ → Membership = told' a.told a.m a.groups in
     let own = c.membership_told-own.ensures in
     let bit' = small c.membership_told-own.result.member _ _ c.only.ensures.1 c.choose-mask.ensures in (
-      omega arith,
-      omega (arith, bit', loop.invariant.1),
-      mask_next f loop.k _ _ _ _ c.loop-k-test.true own c.only.ensures.0 c.choose-mask.ensures loop.invariant.2,
-      four_next (λ g. (f g).preset) loop.k _ _ (ap (λ (m : Membership). m.preset) own) loop.invariant.3,
-      four_next (λ g. (f g).reference) loop.k _ _ (ap (λ (m : Membership). m.reference) own) loop.invariant.4,
+      omega (arith, bit', loop.invariant.0),
+      mask_next f loop.k _ _ _ _ c.loop-k-test.true own c.only.ensures.0 c.choose-mask.ensures loop.invariant.1,
+      four_next (λ g. (f g).preset) loop.k _ _ (ap (λ (m : Membership). m.preset) own) loop.invariant.2,
+      four_next (λ g. (f g).reference) loop.k _ _ (ap (λ (m : Membership). m.reference) own) loop.invariant.3,
     )
 
 pub returns : goal.returns
@@ -55,7 +54,7 @@ returns c =
     let a = c.args in
     let f : ℕ → Membership = told' a.told a.m a.groups in
     let end : loop.k ≡ GROUPS = omega arith in
-    let mask = loop.invariant.2 ∙ ap (λ (n : ℕ). sum_below n (λ g. pick (f g).member (2 ^ g) 0)) end in
-    let presets = loop.invariant.3 ∙ ap (λ (n : ℕ). filled n (λ g. (f g).preset)) end ∙ filled_all (λ g. (f g).preset) in
-    let references = loop.invariant.4 ∙ ap (λ (n : ℕ). filled n (λ g. (f g).reference)) end ∙ filled_all (λ g. (f g).reference) in
+    let mask = loop.invariant.1 ∙ ap (λ (n : ℕ). sum_below n (λ g. pick (f g).member (2 ^ g) 0)) end in
+    let presets = loop.invariant.2 ∙ ap (λ (n : ℕ). filled n (λ g. (f g).preset)) end ∙ filled_all (λ g. (f g).preset) in
+    let references = loop.invariant.3 ∙ ap (λ (n : ℕ). filled n (λ g. (f g).reference)) end ∙ filled_all (λ g. (f g).reference) in
     rw (mask, presets, references)

@@ -11,7 +11,7 @@ answer_stretch-requires c =
     let halves = c.args.halves.now in
     let more = c.loop-i-test.true in
     let taken = turn halves now.current now.i room now.events now.answers now.invariant.0 c.run_to_message-stretch.result _
-    c.place_of-to.result c.run_to_message-stretch.ensures.answer c.run_to_message-stretch.ensures.events c.place_of-to.ensures in
+    c.unwrap_or-to.result c.run_to_message-stretch.ensures.answer c.run_to_message-stretch.ensures.events c.unwrap_or-to.ensures in
     (now.invariant.0.rules, taken.later more, omega (arith, taken.within, now.invariant.0.answers_space))
 
 pub loop-i-smaller : goal.loop-i-smaller
@@ -21,7 +21,7 @@ loop-i-smaller c =
     let halves = c.args.halves.now in
     let more = c.loop-i-test.true in
     let taken = turn halves now.current now.i room now.events now.answers now.invariant.0 c.run_to_message-stretch.result _
-    c.place_of-to.result c.run_to_message-stretch.ensures.answer c.run_to_message-stretch.ensures.events c.place_of-to.ensures in
+    c.unwrap_or-to.result c.run_to_message-stretch.ensures.answer c.run_to_message-stretch.ensures.events c.unwrap_or-to.ensures in
     omega (arith, taken.within, taken.later more)
 
 pub loop-i-preserved : goal.loop-i-preserved
@@ -31,7 +31,7 @@ loop-i-preserved c =
     let halves = c.args.halves.now in
     let more = c.loop-i-test.true in
     let taken = turn halves now.current now.i room now.events now.answers now.invariant.0 c.run_to_message-stretch.result _
-    c.place_of-to.result c.run_to_message-stretch.ensures.answer c.run_to_message-stretch.ensures.events c.place_of-to.ensures in
+    c.unwrap_or-to.result c.run_to_message-stretch.ensures.answer c.run_to_message-stretch.ensures.events c.unwrap_or-to.ensures in
     let turned = taken.after more _ _ c.answer_stretch.ensures.room c.answer_stretch.ensures.written in
     (turned.ready, turned.events_long ∙ now.invariant.1, turned.answers_long ∙ now.invariant.2, turned.same ∙ now.invariant.3)
 

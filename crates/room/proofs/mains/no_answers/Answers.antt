@@ -1,26 +1,14 @@
-use mathlib.Core.Path.{◌≡◌, ap, ap₂, ◌∙◌}
-use mathlib.Core.List.{List}
-use Prim.Native.Nat.{ℕ, ◌+◌, ◌-◌, ◌*◌}
-use native.Mathlib.Omega.{arith}
-use lib.ListN.{length, set, replicate}
-use lib.Seq.{sets, length-sets}
-use Rattle.room.proofs.MainsLaws.{zero_put}
+-- `no_answers` meets its contract: the part of the buffer is filled with 0.
+use mathlib.Core.Path.{ap, ◌∙◌}
+use Prim.Native.Nat.{ℕ, ◌*◌}
+use lib.ListN.{replicate}
+use borrow.Rule.Slice.PartMut.{mid_len}
+use Rattle.room.proofs.MainsLaws.{nought_put}
 use Rattle.room.proofs.mains.no_answers.Goals as goal
 
--- the buffer keeps its length
-long : (answers a : List ℕ) (p n : ℕ) → a ≡ sets answers p (replicate n 0) → length a ≡ length answers
-long answers a p n e = ap length e ∙ length-sets answers p (replicate n 0)
-
-pub loop-k-preserved : goal.loop-k-preserved
-loop-k-preserved c =
-    let a = c.args in
-    let now = c.loop-k in
-    let p : ℕ = 8 * a.from in
-    let n : ℕ = now.k - p in
-    let here : now.k ≡ p + n = omega arith in
-    let more : n + 1 ≡ now.k + 1 - p = omega arith in (
-      omega arith,
-      omega arith,
-      ap₂ (λ (l : List ℕ) (i : ℕ). set l i 0) now.invariant.2 here ∙ zero_put a.answers.now p n
-          ∙ ap (λ (i : ℕ). sets a.answers.now p (replicate i 0)) more,
-    )
+pub returns : goal.returns
+returns c =
+    let a = c.args.answers.now in
+    let long = mid_len (8 * c.args.from) (8 * c.args.to) a c.requires.1 in
+    nought_put a _ c.args.from c.args.to c.requires.0 c.requires.1
+    (c.fill.ensures.after (λ y same. same) ∙ ap (λ (n : ℕ). replicate n 0) long)

@@ -1,9 +1,9 @@
 -- `obey` meets its contract: the room stays valid from one message to the next, and the first of two is an address, which changes no level and no opening.
-use mathlib.Core.Path.{sym, ap, ◌∙◌}
-use Rattle.radio.specs.Answers.{messages_report}
+use mathlib.Core.Path.{◌≡◌, refl, sym, ap, ◌∙◌}
+use Rattle.radio.specs.Answers.{messages_meant, in_order}
 use Rattle.room.specs.Rooms.{room_of, room_ok}
 use Rattle.room.proofs.ApplyLaws.{valid_stays}
-use Rattle.room.proofs.RadioLaws.{meant, means_some, one_obeyed, two_obeyed}
+use Rattle.room.proofs.RadioLaws.{meant, one_obeyed, two_obeyed}
 use Rattle.room.proofs.routes.obey.Goals as goal
 
 pub apply_valid-requires-in-Two : goal.apply_valid-requires-in-Two
@@ -14,7 +14,8 @@ apply_valid-requires-in-Two c =
 
 pub returns-in-Two : goal.returns-in-Two
 returns-in-Two c =
-    let mean = ap (λ x. (messages_report x).values) (meant c.args.k c.requires.1 c.messages.ensures.answer c.in-Two.is) in
+    let told : c.unwrap.result ≡ messages_meant c.args.k = let e = sym c.unwrap.ensures ∙ meant c.args.k c.requires.1 c.messages.ensures.answer in cc in
+    let mean = ap in_order (sym c.in-Two.is ∙ told) in
     let first = c.apply_valid in
     let second = c.apply_valid-in-Two in
     let did = two_obeyed c.args.k (room_of c.args.table.now c.args.shutters.now) c.in-Two.first c.in-Two.second _ _ second.result
@@ -23,11 +24,12 @@ returns-in-Two c =
 
 pub returns-in-One : goal.returns-in-One
 returns-in-One c =
-    let mean = ap (λ x. (messages_report x).values) (meant c.args.k c.requires.1 c.messages.ensures.answer c.in-One.is) in
+    let told : c.unwrap.result ≡ messages_meant c.args.k = let e = sym c.unwrap.ensures ∙ meant c.args.k c.requires.1 c.messages.ensures.answer in cc in
+    let mean = ap in_order (sym c.in-One.is ∙ told) in
     let only = c.apply_valid-in-One in
     let did = one_obeyed c.args.k (room_of c.args.table.now c.args.shutters.now) c.in-One.only _ only.result (sym mean)
     only.ensures.answer only.ensures.room in
     record { counts = c.changes_of-in-One.ensures ∙ did.0; room = did.1 }
 
-pub returns-in-Refused : goal.returns-in-Refused
-returns-in-Refused c = absurd (means_some c.args.k _ (meant c.args.k c.requires.1 c.messages.ensures.answer c.in-Refused.is))
+pub unwrap-requires : goal.unwrap-requires
+unwrap-requires c = rw (meant c.args.k c.requires.1 c.messages.ensures.answer) refl

@@ -16,7 +16,7 @@ use Rattle.station.proofs.TurnLaws.{sends_told, refuses_told}
 use Rattle.station.proofs.SlotLaws.{zeros, or_max, bench_promise}
 use Rattle.station.proofs.Loops.{Looked, looked_none, looked_more, looked_idle, looked_bad, looked_fine, looked_line}
 use Rattle.station.proofs.bench.half_cycle.Goals as goal
-use Rattle.station.proofs.bench.half_cycle.Goals.{then-not-idle+in-Sends, else-not-idle}
+use Rattle.station.proofs.bench.half_cycle.Goals.{then-not-idle+in-Ok, else-not-idle}
 
 -- what the first test says: at most 16, so there are n slots and a draw for each
 few : (n : ℕ) → (leb 1 n && leb n 16) ≡ true → n ≤ 16
@@ -43,14 +43,14 @@ returns-then-not-n c =
     let told = bench_promise {o = c.refused.result} a.n a.slots a.draws (search ladder) in
     record { answer = told.0; report = told.1 }
 
-pub returns-in-Refused : goal.returns-in-Refused
-returns-in-Refused c =
+pub returns-in-Err : goal.returns-in-Err
+returns-in-Err c =
     let a = c.args in
     let count = c.if-not-n.false in
     let here = placed a.n a.slots (omega arith) count in
-    let bad = refuses_told (get_or a.slots c.loop-k.k zeros) _ (sym c.sends.ensures.answer ∙ c.in-Refused.is) in
+    let bad = refuses_told (get_or a.slots c.loop-k.k zeros) _ (sym c.sends.ensures.answer ∙ c.in-Err.is) in
     let wrong = looked_bad (omega (arith, few a.n count)) c.loop-k-test.true zeros c.loop-k.invariant bad in
-    let told = bench_promise {o = c.refused-in-Refused.result} a.n a.slots a.draws (search ladder depth 8) in
+    let told = bench_promise {o = c.refused-in-Err.result} a.n a.slots a.draws (search ladder depth 8) in
     record { answer = told.0; report = told.1 }
 
 pub loop-k-preserved : goal.loop-k-preserved
@@ -61,9 +61,9 @@ loop-k-preserved c =
     let all : a.n ≤ length a.slots = omega (arith, few a.n c.if-not-n.false) in
     rw (add-one l.k)
     (elim c.if-not-idle.branch [
-      | then-not-idle+in-Sends w ↦
-          let half = w.in-Sends.half in
-          let told = sends_told s half (sym w.sends.ensures.answer ∙ w.in-Sends.is) in
+      | then-not-idle+in-Ok w ↦
+          let half = w.in-Ok.half in
+          let told = sends_told s half (sym w.sends.ensures.answer ∙ w.in-Ok.is) in
           let below = subst (λ (x : ℕ). x ≤ 1) told.1 (sends_below s) in
           rw (w.line-is ∙ or_max l.line half l.invariant.half below, w.sent-is)
           (looked_more all c.loop-k-test.true zeros l.invariant told.0 half told.1)

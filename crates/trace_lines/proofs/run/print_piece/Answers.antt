@@ -72,19 +72,13 @@ overflow_add-from g c =
     let t = turn _ _ _ _ _ _ c.loop-from-test.true done.ensures.value done.ensures.out_after in
     omega arith
 
-pub returns-then-q-clause-progress : goal.returns-then-q-clause-progress
-returns-then-q-clause-progress g c =
+pub returns-then-q : goal.returns-then-q
+returns-then-q g c =
     let l = c.loop-from in
     let done = c.trace-done in
     let t = turn _ _ _ _ _ _ c.loop-from-test.true done.ensures.value done.ensures.out_after in
-    (stops _ _ _ _ _ _ _ _ t c.if-q.true l.invariant.1 l.invariant.2).0
-
-pub returns-then-q-clause-buffer : goal.returns-then-q-clause-buffer
-returns-then-q-clause-buffer g c =
-    let l = c.loop-from in
-    let done = c.trace-done in
-    let t = turn _ _ _ _ _ _ c.loop-from-test.true done.ensures.value done.ensures.out_after in
-    (stops _ _ _ _ _ _ _ _ t c.if-q.true l.invariant.1 l.invariant.2).1
+    let owed = stops _ _ _ _ _ _ _ _ t c.if-q.true l.invariant.1 l.invariant.2 in
+    record { progress = owed.0; buffer = owed.1 }
 
 pub loop-from-smaller : goal.loop-from-smaller
 loop-from-smaller g c =
@@ -99,12 +93,8 @@ loop-from-preserved g c =
     let t = turn _ _ _ _ _ _ c.loop-from-test.true done.ensures.value done.ensures.out_after in
     (t.within, t.leads ∙ l.invariant.1, t.buffers ∙ l.invariant.2)
 
-pub returns-clause-progress : goal.returns-clause-progress
-returns-clause-progress g c =
+pub returns : goal.returns
+returns g c =
     let l = c.loop-from in
-    (ends _ _ _ _ _ _ c.loop-from-test.false l.invariant.1 l.invariant.2).0
-
-pub returns-clause-buffer : goal.returns-clause-buffer
-returns-clause-buffer g c =
-    let l = c.loop-from in
-    (ends _ _ _ _ _ _ c.loop-from-test.false l.invariant.1 l.invariant.2).1
+    let owed = ends _ _ _ _ _ _ c.loop-from-test.false l.invariant.1 l.invariant.2 in
+    record { progress = owed.0; buffer = owed.1 }

@@ -1,9 +1,0 @@
--- `put_column` is safe: the loop goes over the sixteen slots.
-use Prim.Native.Nat.{◌≤◌, ◌-◌}
-use Rattle.timelines.proofs.put_column.Given as goal
-
-abbrev pub invariant-loop-k : goal.invariant-loop-k
-invariant-loop-k l = (l.k ≤ 16)
-
-abbrev pub decreases-loop-k : goal.decreases-loop-k
-decreases-loop-k l = 16 - l.k
