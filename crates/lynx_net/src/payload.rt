@@ -28,7 +28,7 @@ pub enum Form {
     Unknown,
 }
 
-// What comes after the addresses of a payload.
+// What comes after the addresses of a payload. Nothing is a case and no `None`: the definition `ending_list` speaks of the three.
 #[derive(Clone, Copy)]
 pub enum Ending {
     Nothing,

@@ -26,7 +26,7 @@ pub const ROOM: usize = 512;
 // The greatest number that a place has.
 pub const GREATEST: u64 = 18446744073709551615;
 
-// Where the reading of a line stands. Its bytes are kept beside it.
+// Where the reading of a line stands. Its bytes are kept beside it, in a lent buffer with their count here: memory is fixed.
 #[derive(Clone, Copy)]
 pub struct Line {
     // How many bytes are kept.

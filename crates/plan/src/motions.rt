@@ -38,7 +38,7 @@ pub(crate) fn motion_plan(unit: u8, data: u8, command: u8) -> Result<Plan, Refus
     }
 }
 
-// The opening that a motion brings, and 0 where it brings none.
+// The opening that a motion brings, and 0 where it brings none: no `Option`, since the definition `brought_by` says so.
 pub(crate) fn brought_by(motion: Motion) -> u8
     ensures { result ≡ brought_by motion }
 {

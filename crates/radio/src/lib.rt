@@ -32,7 +32,7 @@ pub enum RadioMessages {
 // The high four bits of b for each house.
 const HOUSE_NIBBLES: [u8; 16] = [6, 7, 4, 5, 8, 9, 10, 11, 14, 15, 12, 13, 0, 1, 2, 3];
 
-// The high four bits of b for a house, and 0 for a number above 15.
+// The high four bits of b for a house, and 0 for a number above 15: no `Option`, since the definition `nibble_of` says so.
 fn nibble_of(house: u8) -> u8
     ensures { result ≡ nibble_of house }
 {

@@ -17,7 +17,7 @@ use message::Message;
 use wire::{Five, five_kept, five_none, five_of, kept_from};
 
 // A run over half-cycles up to the first that gives MESSAGE: the place of the half-cycle after the last that it took, or why it took none;
-// the receiver for that place; and the message given, if any.
+// the receiver for that place; and the message given, if any. The answer stands beside what is left on a refusal too, as `stretch_of` says.
 #[derive(Clone, Copy)]
 pub struct Stretch {
     pub answer: Result<usize, Refusal>,
@@ -50,7 +50,8 @@ fn taken(r: Receiver) -> Result<Receiver, Refusal>
     Ok(r)
 }
 
-// The place that three of a receiver's bytes say: that in its frame, or that of a waiting while it hunts. 255, which is refused, where they say none.
+// The place that three of a receiver's bytes say: that in its frame, or that of a waiting while it hunts. 255, which is refused, where they say none: no
+// `Option`, since the definition `place_from` says so.
 fn place_from(at: u8, since: u8, target: u8) -> u8
     ensures { result ≡ place_from at since target }
 {

@@ -265,7 +265,7 @@ fn places_of(motion: Motion, house: usize) -> Places
     }
 }
 
-// The unit that a motion names; 0 where it names none.
+// The unit that a motion names; 0 where it names none: no `Option`, since the definition `unit_named` says so.
 fn unit_named(motion: Motion) -> u8
     ensures { result ≡ unit_named motion }
 {

@@ -12,7 +12,7 @@ use message::{Function, Message};
 // The bytes that a text has room for. The longest, a function's name after FUNCTION and its house, has 27.
 pub const ROOM: usize = 32;
 
-// A text of at most 32 bytes; the bytes past its length are 0.
+// A text of at most 32 bytes; the bytes past its length are 0. A buffer and a length and no `String`: memory is fixed.
 #[derive(Clone, Copy)]
 pub struct Text {
     pub bytes: [u8; ROOM],

@@ -10,6 +10,7 @@ const SIZE: usize = 65536;
 // The bytes of a row.
 const ROW: usize = 112;
 
+// A buffer and a place and no `String`: memory is fixed.
 #[derive(Drop)]
 pub(crate) struct Page {
     bytes: [u8; SIZE],

@@ -49,7 +49,8 @@ pub struct Printed {
     pub at: usize,
 }
 
-// What became of a piece of the input: where the trace stands, how many of the bytes were taken, and how many are in the buffer.
+// What became of a piece of the input: where the trace stands, how many of the bytes were taken, and how many are in the buffer, which is lent:
+// memory is fixed.
 #[derive(Clone, Copy)]
 pub struct Traced {
     pub progress: Progress,
