@@ -36,8 +36,8 @@ pub fn past(text: &[u8], at: usize) -> usize
     if at < text.len() { at + 1 } else { text.len() }
 }
 
-// Reads to the end of a file, a read that fails or the end of the buffer, and answers how many bytes came. These are what the file had,
-// in order, and none is lost between them and what it has left.
+// Reads to the end of a file, a read that fails or the end of the buffer, and answers how many bytes came. Of a reader that says what it still has these
+// are what it had, in order, and none is lost between them and what it has left; a file says nothing of it. Where the reading ends is not promised.
 pub fn read_front<R: Read>(from: &mut R, text: &mut [u8]) -> usize
     ensures within { (length text.new ≡ length text.old) × (result ≤ length text.new) }
     ensures bytes { Consumes (R.remaining from.old) (R.remaining from.new) (take result text.new) }
