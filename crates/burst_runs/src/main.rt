@@ -11,16 +11,20 @@ use std::io::Write;
 // The longest buffer shown.
 const ROOM: usize = 126;
 
-// One line: the name, the number given back, the half-cycles written, and the buffer. A write that fails is passed over.
+// One line: the name, the number given back, the half-cycles written, and the buffer. Each part is a write of its own: one that fails is passed over, and
+// the others are tried.
 fn show(rt: &impl Print, name: &str, m: Message, length: usize) {
     let mut space = [b'.'; ROOM];
     if ROOM < length {
         return;
     }
-    let _ = print!(rt; "{name}\t");
+    let _ = print!(rt; "{name}");
+    let _ = print!(rt; "\t");
     report(rt, burst::write_burst(m, &mut space[..length]));
-    let text = space.map(digit);
-    let _ = io::writer(rt).write_all(&text[..length]);
+    for b in &mut space {
+        *b = digit(*b);
+    }
+    let _ = io::writer(rt).write_all(&space[..length]);
     let _ = println!(rt);
 }
 
@@ -33,7 +37,10 @@ fn report(rt: &impl Print, answer: Result<usize, Refusal>) {
 }
 
 fn print_two(rt: &impl Print, number: u8, count: usize) {
-    let _ = print!(rt; "{number}\t{count}\t");
+    let _ = print!(rt; "{number}");
+    let _ = print!(rt; "\t");
+    let _ = print!(rt; "{count}");
+    let _ = print!(rt; "\t");
 }
 
 // A half-cycle as a digit; a byte that was not written stays a dot.

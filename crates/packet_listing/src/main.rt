@@ -95,7 +95,7 @@ fn mark_of(fault: Fault) -> &'static str {
     }
 }
 
-// Prints what the reader says of a packet. Here and below, a write that fails is passed over.
+// Prints what the reader says of a packet. Here and below each part is a write of its own: one that fails is passed over, and the others are tried.
 fn print_answer(rt: &impl Print, packet: &[u8]) {
     let mut text = [0; ROOM];
     let n = put_answer(packet, &mut text);
@@ -191,14 +191,22 @@ fn counted(mut t: Totals, v: Verdict) -> Totals
     t
 }
 
+fn print_total(rt: &impl Print, n: u64, what: &str) {
+    let _ = print!(rt; "{n}");
+    let _ = println!(rt; "{what}");
+}
+
 fn print_totals(rt: &impl Print, totals: Totals, rest: usize) {
-    let _ = println!(rt; "{} rows are read", totals.read);
-    let untaken = totals.untaken;
-    let _ = println!(rt; "{untaken} rows are refused 22: commands that A6 does not take");
-    let _ = println!(rt; "{} rows are misprinted, and marked so", totals.misprinted);
-    let _ = println!(rt; "{} rows are marked wrongly", totals.wrong);
-    let _ = println!(rt; "{} rows print no whole packet", totals.partial);
-    let _ = println!(rt; "{rest} bytes follow the last row");
+    print_total(rt, totals.read, " rows are read");
+    print_total(
+        rt,
+        totals.untaken,
+        " rows are refused 22: commands that A6 does not take",
+    );
+    print_total(rt, totals.misprinted, " rows are misprinted, and marked so");
+    print_total(rt, totals.wrong, " rows are marked wrongly");
+    print_total(rt, totals.partial, " rows print no whole packet");
+    print_total(rt, rest as u64, " bytes follow the last row");
 }
 
 // Judges the listing, row after row, and prints the totals.

@@ -160,7 +160,8 @@ const WORDS: [(u16, &str); 11] = [
 fn print_set(rt: &impl Print, set: u16) {
     for (outcome, words) in WORDS {
         if set & outcome != 0 {
-            let _ = print!(rt; "\t{words}");
+            let _ = print!(rt; "\t");
+            let _ = print!(rt; "{words}");
         }
     }
     let _ = println!(rt);
@@ -170,7 +171,9 @@ fn print_set(rt: &impl Print, set: u16) {
 fn print_bit(rt: &impl Print, name: &str, at: usize, bit: u8)
     requires { (at ≤ 2) × (bit < 8) }
 {
-    let _ = print!(rt; "{name}'s bit {bit}");
+    let _ = print!(rt; "{name}");
+    let _ = print!(rt; "'s bit ");
+    let _ = print!(rt; "{bit}");
     let mask = 1 << bit;
     print_set(rt, outcomes(at, mask, at + 1, mask));
 }
@@ -194,7 +197,7 @@ fn print_alone(rt: &impl Print) {
     print_set(rt, set);
 }
 
-// A write that fails is passed over.
+// Each part is a write of its own: one that fails is passed over, and the others are tried.
 fn main(rt: HostRuntime) {
     print_byte(&rt, "b", 0);
     print_byte(&rt, "c", 2);

@@ -125,12 +125,13 @@ enum Verdict {
     WrongMark,
 }
 
-// Prints a row that differs. Here and below, a write that fails is passed over.
+// Prints a row that differs. Here and below each part is a write of its own: one that fails is passed over, and the others are tried.
 fn report(rt: &impl Print, row: usize, printed: &[u8], rule: &[u8]) {
     let mut out = io::writer(rt);
-    let _ = write!(out, "{row}\tlisting\t");
+    let _ = write!(out, "{row}");
+    let _ = out.write_all(b"\tlisting\t");
     let _ = out.write_all(printed);
-    let _ = write!(out, "\trule\t");
+    let _ = out.write_all(b"\trule\t");
     let _ = out.write_all(rule);
     let _ = writeln!(out);
 }
@@ -184,12 +185,20 @@ fn counted(mut t: Totals, v: Verdict) -> Totals
     t
 }
 
+fn print_total(rt: &impl Print, n: u64, what: &str) {
+    let _ = print!(rt; "{n}");
+    let _ = println!(rt; "{what}");
+}
+
 fn print_totals(rt: &impl Print, totals: Totals, rest: usize) {
-    let _ = println!(rt; "{} rows agree with the rule", totals.agree);
-    let differ = totals.differ;
-    let _ = println!(rt; "{differ} rows differ and are marked with what the rule says");
-    let _ = println!(rt; "{} rows are marked wrongly", totals.wrong);
-    let _ = println!(rt; "{rest} bytes follow the last row");
+    print_total(rt, totals.agree, " rows agree with the rule");
+    print_total(
+        rt,
+        totals.differ,
+        " rows differ and are marked with what the rule says",
+    );
+    print_total(rt, totals.wrong, " rows are marked wrongly");
+    print_total(rt, rest as u64, " bytes follow the last row");
 }
 
 // Judges the listing, a line for each row, and prints the totals.

@@ -8,11 +8,12 @@
 --     hunt_found, wait_on, wait_found, wait_near, wait_far      the hunt while a start is waited for, case by case
 --     at_most, valid_parts               what holds of a receiver that is not refused
 --     ten_to_twelve, nine_ok, nine_ok_lem       what nine bits say, judged by their numbers; one computed test over the table of meanings
---     read_nine, read_all, last_code     a complete frame's bits are not refused
+--     nine_taken, read_nine, read_all, last_code      a complete frame's bits are not refused
 --     standard_ok, extended_ok           what they say is a valid message, if any
 --     begun_code                         only code 7 with function bit 1 begins a longer frame
 --     step_lowest, fresh_is_valid, stays_valid, gives_valid      StepLowest, FreshIsValid, StaysValid and GivesValid
-use Rattle.std.specs.Prelude.{Option, Some, None, Ok}
+use Rattle.std.specs.Prelude.{Option, Some, None, Result, Ok}
+use Rattle.std.specs.Result.{IsOk}
 use mathlib.Core.Logic.{◌≢◌, ◌⊎◌, inl, inr, ⊎_elim}
 use mathlib.Core.Path.{◌≡◌, refl, sym, ap, ◌∙◌}
 use mathlib.Core.Bool.{Bool, true, false, false≢true, ◌&&◌, ◌||◌, not, and-eq-true_iff, and-false, or-true}
@@ -385,14 +386,21 @@ last_code r ok e =
 part : (w n j k : ℕ) → w % 2 ^ (n + j + k) / 2 ^ k % 2 ^ j ≡ w / 2 ^ k % 2 ^ j
 part w n j k = ap (λ (x : ℕ). x % 2 ^ j) (field w (n + j) k) ∙ mod-mod-pow (w / 2 ^ k) n j
 
+nine_read : (w : ℕ) → w < 512 → standard_answer w ≡ Ok (standard_of w)
+unfolding standard_answer judged
+nine_read w low = rw (lt-ltb w 512 low)
+
+-- bits that are handed on are not refused, where they are no more than nine
+pub nine_taken : {w : ℕ} {r : Result Reading Refusal} → r ≡ standard_answer w → w < 512 → IsOk r
+nine_taken {w} is low = rw (is, nine_read w low) refl
+
 pub read_nine : (w : ℕ) → standard_answer (w % 512) ≡ Ok (standard_of w)
-unfolding standard_answer judged standard_of
+unfolding standard_of
 read_nine w =
-    let low : w % 512 < 2 ^ 9 = omega arith in
     let bit : w % 512 % 2 ≡ w % 2 = omega arith in
     let code : w % 512 / 2 % 16 ≡ w / 2 % 16 = part w 4 4 1 in
     let house : w % 512 / 32 % 16 ≡ w / 32 % 16 = part w 0 4 5 in
-    rw (lt-ltb (w % 512) (2 ^ 9) low, bit, code, house)
+    nine_read (w % 512) (omega arith) ∙ rw (bit, code, house)
 
 pub read_all : (w : ℕ) → w / 2 ^ 20 % 32 ≡ 15 → extended_answer (w % 536870912) ≡ Ok (Says (extended_of w))
 unfolding extended_answer judged

@@ -312,11 +312,16 @@ pub fn receive(state: &mut [u8], halves: &[u8], events: &mut [u8]) -> Result<usi
     ensures state { state.new ≡ state_after state.old halves.now (length events.old) }
     ensures events { events.new ≡ events_after state.old halves.now events.old }
 {
-    let r = receiver_in(state)?;
-    if events.len() / 6 < halves.len() {
-        return Err(Refusal::Short);
+    // No `?`: at one no edit can change alone what is answered there, and be refused for it.
+    match receiver_in(state) {
+        Ok(r) => {
+            if events.len() / 6 < halves.len() {
+                return Err(Refusal::Short);
+            }
+            let next = run_all(r, halves, events);
+            put_bytes(state, next);
+            Ok(halves.len())
+        }
+        Err(_) => Err(Refusal::State),
     }
-    let next = run_all(r, halves, events);
-    put_bytes(state, next);
-    Ok(halves.len())
 }

@@ -81,10 +81,11 @@ pub(crate) fn applied(m: Message, a: Result<Changes, Refusal>) {
 
 // A radio code, and what came of it.
 pub(crate) fn coded(code: &[u8; 4], a: Result<Changes, Refusal>) {
-    print(b"radio");
+    let mut before: &[u8] = b"radio ";
     for &b in code {
-        print(b" ");
+        print(before);
         print_text(hex(b));
+        before = b" ";
     }
     print(b": ");
     answer(a);
@@ -111,11 +112,12 @@ pub(crate) fn field(name: &[u8], value: u8) {
     number(value as u64);
 }
 
-// Some bytes under a name.
+// Some bytes under a name, which is printed in one with the space after it.
 fn fields(name: &[u8], values: &[u8]) {
-    print(name);
+    let mut before = name;
     for &value in values {
-        field(b" ", value);
+        field(before, value);
+        before = b" ";
     }
 }
 
@@ -130,8 +132,8 @@ fn record(t: &[u8; TABLE_BYTES], i: usize)
     field(b" level ", t[at + 1]);
     field(b" addressed ", t[at + 2]);
     field(b" mask ", t[at + 3]);
-    fields(b" presets", &t[at + 4..at + 8]);
-    fields(b" references", &t[at + 8..at + 12]);
+    fields(b" presets ", &t[at + 4..at + 8]);
+    fields(b" references ", &t[at + 8..at + 12]);
     print(b"\n");
 }
 
@@ -251,6 +253,6 @@ pub(crate) fn answered(answers: &[u8; ANSWERS], n: u8)
 {
     let at = (n as usize - 1) * 8;
     field(b"  half-cycle ", n);
-    fields(b" answered", &answers[at..at + 8]);
+    fields(b" answered ", &answers[at..at + 8]);
     print(b"\n");
 }

@@ -92,9 +92,14 @@ pub fn load(state: &mut [u8], m: Message, draw: u8) -> Result<usize, Refusal>
     ensures state { state.new ≡ loaded_after state.old m draw }
 {
     let loading = station::load(station_in(state), m, draw);
-    loading.answer?;
-    put_bytes(state, loading.next);
-    Ok(0)
+    // No `?` here and below: at one no edit can change alone what is answered there, and be refused for it.
+    match loading.answer {
+        Ok(()) => {
+            put_bytes(state, loading.next);
+            Ok(0)
+        }
+        Err(not_loaded) => Err(not_loaded),
+    }
 }
 
 // What the station in eight lent bytes sends in this half-cycle: the count is 0 or 1.
@@ -103,8 +108,10 @@ pub fn sends(state: &[u8]) -> Result<usize, Refusal>
     ensures report { count_report result
         ≡ judged (send_causes (station_in state.now)) (reports (sends_of (station_in state.now) ∷ [])) refuses }
 {
-    let half = station::sends(station_in(state))?;
-    Ok(half as usize)
+    match station::sends(station_in(state)) {
+        Ok(half) => Ok(half as usize),
+        Err(not_sent) => Err(not_sent),
+    }
 }
 
 // One half-cycle of the station in eight lent bytes, with what it heard and a draw: the count is 1 where it says DONE. Refused, it changes
@@ -116,10 +123,14 @@ pub fn half_cycle(state: &mut [u8], heard: u8, draw: u8) -> Result<usize, Refusa
     ensures state { state.new ≡ turned_after state.old heard draw }
 {
     let turn = advance(station_in(state), heard, draw);
-    let turned = turn.answer?;
-    put_bytes(state, turn.next);
-    match turned {
-        Turned::Going => Ok(0),
-        Turned::Done => Ok(1),
+    match turn.answer {
+        Ok(turned) => {
+            put_bytes(state, turn.next);
+            match turned {
+                Turned::Going => Ok(0),
+                Turned::Done => Ok(1),
+            }
+        }
+        Err(not_moved) => Err(not_moved),
     }
 }

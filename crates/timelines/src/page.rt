@@ -21,6 +21,8 @@ pub(crate) struct Page {
 }
 
 impl Page {
+    // Inlined, so that the page stands on the stack once.
+    #[inline(always)]
     pub(crate) fn new() -> Page {
         Page {
             bytes: [b' '; SIZE],

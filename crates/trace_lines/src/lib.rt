@@ -212,16 +212,19 @@ pub(crate) fn trace(p: Progress, input: &[u8], out: &mut [u8; SIZE]) -> Traced
     }
     let mut q = p;
     let mut at: usize = 0;
-    for i in 0..input.len() {
+    // How many bytes were taken is answered. It is counted: with the place of a `for` in its stead the receiver was kept in memory from turn to turn.
+    let mut taken: usize = 0;
+    for &b in input {
         if at > LAST {
-            return ended(q, i, at);
+            return ended(q, taken, at);
         }
-        let done = print_byte(q, input[i], out, at);
+        let done = print_byte(q, b, out, at);
         q = done.progress;
         at = done.at;
+        taken += 1;
         if q.stopped {
-            return ended(q, i + 1, at);
+            return ended(q, taken, at);
         }
     }
-    ended(q, input.len(), at)
+    ended(q, taken, at)
 }

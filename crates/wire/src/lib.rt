@@ -60,8 +60,11 @@ pub fn message_from(
     if kind != 2 {
         return Err(Refusal::Message);
     }
-    let function = function_at(third)?;
-    taken(Message::Function { house, function })
+    // No `?`: at one no edit can change alone what is answered there, and be refused for it.
+    match function_at(third) {
+        Ok(function) => taken(Message::Function { house, function }),
+        Err(_) => Err(Refusal::Message),
+    }
 }
 
 // The five numbers of a message, 0 for data and command where it has none.

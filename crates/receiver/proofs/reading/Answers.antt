@@ -1,13 +1,14 @@
 -- `reading` meets its contract: its two tests are those of `reading_of`, and neither reading refuses the bits that it is handed.
 use mathlib.Core.Path.{◌≡◌, refl, sym, ◌∙◌}
+use native.Mathlib.Omega.{arith}
 use borrow.Author.Tests.{eq-eqb, ne_eqb}
 use Rattle.message.specs.Words.{standard_of, extended_of}
 use Rattle.message.specs.declared.word.Reading.TheVariants.{Message as Says}
-use Rattle.receiver.proofs.ReceiverLaws.{read_nine, read_all}
+use Rattle.receiver.proofs.ReceiverLaws.{nine_taken, read_nine, read_all}
 use Rattle.receiver.proofs.reading.Goals as goal
 
 pub unwrap-requires : goal.unwrap-requires
-unwrap-requires c = rw (c.read_standard.ensures.answer, read_nine c.args.bits) refl
+unwrap-requires c = nine_taken c.read_standard.ensures.answer (omega arith)
 
 pub unwrap-requires-then-at-eq62 : goal.unwrap-requires-then-at-eq62
 unwrap-requires-then-at-eq62 c = rw (c.read_extended.ensures.answer, read_all c.args.bits (c.requires c.if-at-eq62.true)) refl

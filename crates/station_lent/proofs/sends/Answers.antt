@@ -1,19 +1,19 @@
 -- `sends` meets its contract: what `station::sends` answered tells whether the station is refused.
-use Rattle.ground.proofs.Passed.{passed_on}
+use mathlib.Core.Path.{refl}
 use Rattle.station_lent.specs.StationBytes.{sent_answer}
 use Rattle.station_lent.proofs.StationLaws.{send_done, send_refused}
 use Rattle.station_lent.proofs.sends.Goals as goal
 
-pub returns-clause-answer : goal.returns-clause-answer
+pub returns-in-Ok-clause-answer : goal.returns-in-Ok-clause-answer
 unfolding sent_answer
-returns-clause-answer c =
+returns-in-Ok-clause-answer c =
     let owed = send_done c.args.state.now c.station_in.result c.station_in.ensures _
-    c.sends.ensures.report _ c.in_ok-half.was in
+    c.sends.ensures.report _ c.in-Ok.is in
     owed.0
 
-pub returns-in_err-half-clause-answer : goal.returns-in_err-half-clause-answer
+pub returns-in-Err-clause-answer : goal.returns-in-Err-clause-answer
 unfolding sent_answer
-returns-in_err-half-clause-answer c =
+returns-in-Err-clause-answer c =
     let owed = send_refused c.args.state.now c.station_in.result c.station_in.ensures _
-    c.sends.ensures.report _ c.in_err-half.was (passed_on _ c.from_residual.ensures.1) in
+    c.sends.ensures.report _ c.in-Err.is refl in
     owed.0

@@ -5,5 +5,5 @@ use mathlib.Core.Bool.{false}
 use Rattle.trace_lines.proofs.TraceLaws.{Going}
 use Rattle.trace_lines.proofs.trace.Given as goal
 
-abbrev pub invariant-loop-i : goal.invariant-loop-i
-invariant-loop-i l = Going l.input l.initial.out l.initial.q l.out l.q l.at l.i × (l.q.stopped ≡ false)
+abbrev pub invariant-loop-b : goal.invariant-loop-b
+invariant-loop-b l = Going l.input l.initial.out l.initial.q l.out l.q l.at l.b-index × (l.q.stopped ≡ false) × (l.taken ≡ l.b-index)

@@ -10,8 +10,6 @@ use Rattle.ground.specs.declared.Refusal.TheVariants as refusal
 use Rattle.message.specs.declared.Message.{Message}
 use Rattle.wire.proofs.message_from.Goals as goal
 use Rattle.ground.specs.declared.Refusal.{Refusal}
-use Rattle.ground.proofs.Passed.{passed_on}
-use Rattle.message.proofs.CodeLaws.{function_refused}
 
 -- the number is that of the answer
 reported : (k h t d c : ℕ) (o : Result Message Refusal) → o ≡ message_from k h t d c
@@ -40,21 +38,19 @@ returns-then-kind-ne2 c =
     (simp (ne_eqb _ _ c.if-kind-eq1.false, ne_eqb _ _ c.if-kind-eq3.false, ne_eqb _ _ c.if-kind-ne2.true)) in
     record { answer = owed.0; number = owed.1 }
 
-pub returns : goal.returns
+pub returns-in-Ok : goal.returns-in-Ok
 unfolding message_from
-returns c =
+returns-in-Ok c =
     let a = c.args in
-    let is = sym c.function_at.ensures.answer ∙ c.in_ok-function.was in
-    let owed = reported a.kind a.house a.third a.data a.command c.taken-2.result
-    (simp (c.if-kind-ne2.false, is) c.taken-2.ensures) in
+    let is = sym c.function_at.ensures.answer ∙ c.in-Ok.is in
+    let owed = reported a.kind a.house a.third a.data a.command c.taken-in-Ok.result
+    (simp (c.if-kind-ne2.false, is) c.taken-in-Ok.ensures) in
     record { answer = owed.0; number = owed.1 }
 
-pub returns-in_err-function : goal.returns-in_err-function
+pub returns-in-Err : goal.returns-in-Err
 unfolding message_from
-returns-in_err-function c =
+returns-in-Err c =
     let a = c.args in
-    let a = c.args in
-    let is = sym c.function_at.ensures.answer ∙ c.in_err-function.was in
-    let passed = passed_on _ c.from_residual.ensures.1 ∙ ap {B = Result Message Refusal} Err (function_refused a.third is) in
-    let both = reported a.kind a.house a.third a.data a.command c.from_residual.result (simp (c.if-kind-ne2.false, is) passed) in
-    record { answer = both.0; number = both.1 }
+    let is = sym c.function_at.ensures.answer ∙ c.in-Err.is in
+    let owed = reported a.kind a.house a.third a.data a.command (Err refusal.Message) (simp (c.if-kind-ne2.false, is)) in
+    record { answer = owed.0; number = owed.1 }

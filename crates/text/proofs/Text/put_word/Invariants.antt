@@ -8,12 +8,11 @@ use Rattle.text.specs.Texts.{trimmed}
 use Rattle.text.specs.declared.Text.{Text}
 use Rattle.text.proofs.Text.put_word.Given as goal
 
--- the word from i on is still to be put
-pub record Rest (begun : Text) (word : List ℕ) (now : Text) (i : ℕ) : Type 0 where
+-- the word from i on is still to be put, at the place reached
+pub record Rest (begun : Text) (word out : List ℕ) (i : ℕ) : Type 0 where
   pub whole : length word ≡ 16
-  pub place : now.length ≡ begun.length + i
-  pub bytes : sets now.bytes now.length (trimmed (drop i word)) ≡ sets begun.bytes begun.length (trimmed word)
+  pub bytes : sets out (begun.length + i) (trimmed (drop i word)) ≡ sets begun.bytes begun.length (trimmed word)
   pub count : i + length (trimmed (drop i word)) ≡ length (trimmed word)
 
-abbrev pub invariant-loop-b : goal.invariant-loop-b
-invariant-loop-b l = Rest l.initial.self l.b-items l.self l.b-index
+abbrev pub invariant-loop-i : goal.invariant-loop-i
+invariant-loop-i l = Rest l.initial.self l.word l.self.bytes l.i
