@@ -10,8 +10,8 @@ ghost use Rattle.receiver.specs.Receivers.{shifted, bare_at, waiting, hunting, s
 ghost use Rattle.receiver.specs.Receivers.{reading_of, pair_of, broken, read_of, takes_of};
 
 use ground::Refusal;
-use message::Message;
 use message::word::{Reading, read_extended, read_standard};
+use message::{Message, same};
 
 pub mod lent;
 
@@ -249,7 +249,10 @@ fn awaits(r: Receiver, half: u8) -> Heard
 fn is_repeat(given: Option<Message>, m: Message) -> bool
     ensures { result ≡ is_repeat given m }
 {
-    given == Some(m)
+    match given {
+        None => false,
+        Some(g) => same(g, m),
+    }
 }
 
 // A frame is complete.
