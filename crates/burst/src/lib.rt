@@ -95,7 +95,7 @@ pub fn write_burst(m: Message, buf: &mut [u8]) -> Result<usize, Refusal>
     ensures report { count_report result ≡ judged (burst_causes m (length buf.old)) (reports (burst_length m ∷ [])) refuses }
     ensures buffer { buf.new ≡ buffer_after m buf.old }
 {
-    // No `?`: at one no edit can change the number alone that is handed on, and be refused for it.
+    // A `match` and no `?`: a must-fail edit can then change the answer alone.
     match word_of(m) {
         Ok(w) => write_word(w, buf),
         Err(why) => Err(why),

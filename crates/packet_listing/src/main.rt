@@ -139,7 +139,7 @@ fn judge_bytes(rt: &impl Print, printed: &[u8], code: u8, mark: &[u8]) -> Verdic
     if (line.bad == 0) & (line.high >= 16) {
         return judge_packet(rt, front(&kept, line.count), code, mark);
     }
-    let _ = print!(rt; "NOT WHOLE");
+    let _ = io::writer(rt).write_all(b"NOT WHOLE");
     if mark.is_empty() {
         Verdict::NotWhole
     } else {
@@ -161,7 +161,7 @@ fn judge_row(rt: &impl Print, row: &[u8]) -> Verdict {
         code_of(front(row, code_end)),
         &row[mark..],
     );
-    let _ = println!(rt);
+    let _ = io::writer(rt).write_all(b"\n");
     verdict
 }
 
@@ -191,22 +191,20 @@ fn counted(mut t: Totals, v: Verdict) -> Totals
     t
 }
 
-fn print_total(rt: &impl Print, n: u64, what: &str) {
-    let _ = print!(rt; "{n}");
-    let _ = println!(rt; "{what}");
-}
-
 fn print_totals(rt: &impl Print, totals: Totals, rest: usize) {
-    print_total(rt, totals.read, " rows are read");
-    print_total(
-        rt,
-        totals.untaken,
-        " rows are refused 22: commands that A6 does not take",
-    );
-    print_total(rt, totals.misprinted, " rows are misprinted, and marked so");
-    print_total(rt, totals.wrong, " rows are marked wrongly");
-    print_total(rt, totals.partial, " rows print no whole packet");
-    print_total(rt, rest as u64, " bytes follow the last row");
+    let mut out = io::writer(rt);
+    let _ = write!(out, "{}", totals.read);
+    let _ = out.write_all(b" rows are read\n");
+    let _ = write!(out, "{}", totals.untaken);
+    let _ = out.write_all(b" rows are refused 22: commands that A6 does not take\n");
+    let _ = write!(out, "{}", totals.misprinted);
+    let _ = out.write_all(b" rows are misprinted, and marked so\n");
+    let _ = write!(out, "{}", totals.wrong);
+    let _ = out.write_all(b" rows are marked wrongly\n");
+    let _ = write!(out, "{}", totals.partial);
+    let _ = out.write_all(b" rows print no whole packet\n");
+    let _ = write!(out, "{}", rest);
+    let _ = out.write_all(b" bytes follow the last row\n");
 }
 
 // Judges the listing, row after row, and prints the totals.

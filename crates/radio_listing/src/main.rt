@@ -185,20 +185,16 @@ fn counted(mut t: Totals, v: Verdict) -> Totals
     t
 }
 
-fn print_total(rt: &impl Print, n: u64, what: &str) {
-    let _ = print!(rt; "{n}");
-    let _ = println!(rt; "{what}");
-}
-
 fn print_totals(rt: &impl Print, totals: Totals, rest: usize) {
-    print_total(rt, totals.agree, " rows agree with the rule");
-    print_total(
-        rt,
-        totals.differ,
-        " rows differ and are marked with what the rule says",
-    );
-    print_total(rt, totals.wrong, " rows are marked wrongly");
-    print_total(rt, rest as u64, " bytes follow the last row");
+    let mut out = io::writer(rt);
+    let _ = write!(out, "{}", totals.agree);
+    let _ = out.write_all(b" rows agree with the rule\n");
+    let _ = write!(out, "{}", totals.differ);
+    let _ = out.write_all(b" rows differ and are marked with what the rule says\n");
+    let _ = write!(out, "{}", totals.wrong);
+    let _ = out.write_all(b" rows are marked wrongly\n");
+    let _ = write!(out, "{}", rest);
+    let _ = out.write_all(b" bytes follow the last row\n");
 }
 
 // Judges the listing, a line for each row, and prints the totals.

@@ -312,7 +312,7 @@ pub fn receive(state: &mut [u8], halves: &[u8], events: &mut [u8]) -> Result<usi
     ensures state { state.new ≡ state_after state.old halves.now (length events.old) }
     ensures events { events.new ≡ events_after state.old halves.now events.old }
 {
-    // No `?`: at one no edit can change alone what is answered there, and be refused for it.
+    // A `match` and no `?`: a must-fail edit can then change the answer alone.
     match receiver_in(state) {
         Ok(r) => {
             if events.len() / 6 < halves.len() {

@@ -92,7 +92,7 @@ pub fn load(state: &mut [u8], m: Message, draw: u8) -> Result<usize, Refusal>
     ensures state { state.new ≡ loaded_after state.old m draw }
 {
     let loading = station::load(station_in(state), m, draw);
-    // No `?` here and below: at one no edit can change alone what is answered there, and be refused for it.
+    // Here and below a `match` and no `?`: a must-fail edit can then change the answer alone.
     match loading.answer {
         Ok(()) => {
             put_bytes(state, loading.next);

@@ -60,7 +60,7 @@ pub fn message_from(
     if kind != 2 {
         return Err(Refusal::Message);
     }
-    // No `?`: at one no edit can change alone what is answered there, and be refused for it.
+    // A `match` and no `?`: a must-fail edit can then change the answer alone.
     match function_at(third) {
         Ok(function) => taken(Message::Function { house, function }),
         Err(_) => Err(Refusal::Message),
