@@ -87,17 +87,33 @@ pub extern "C" fn x10_receive(state: &mut [u8], halves: &[u8], events: &mut [u8]
     pack(receive(state, halves, events))
 }
 
+// Puts the four bytes of a code at the front of a buffer, one by one: copied as one they are put together first, and whoever reads one waits for all.
+fn put_code(out: &mut [u8], code: &[u8; 4])
+    requires { 4 ≤ length out.old }
+    ensures { (out.new ≡ sets out.old 0 code.now) × (length code.now ≡ 4) }
+{
+    out[0] = code[0];
+    out[1] = code[1];
+    out[2] = code[2];
+    out[3] = code[3];
+}
+
 // Writes a command's four bytes to the front of a buffer.
 fn write_code(k: RadioCommand, out: &mut [u8]) -> Result<usize, Refusal>
     ensures value { result ≡ code_answer k (length out.old) }
     ensures out_after { out.new ≡ code_after k out.old }
 {
-    let code = write(k)?;
-    if out.len() < 4 {
-        return Err(Refusal::Short);
+    // A `match` and no `?`: by that the four bytes would come as one number.
+    match write(k) {
+        Ok(code) => {
+            if out.len() < 4 {
+                return Err(Refusal::Short);
+            }
+            put_code(out, &code);
+            Ok(4)
+        }
+        Err(why) => Err(why),
     }
-    out[..4].copy_from_slice(&code);
-    Ok(4)
 }
 
 // Writes the four bytes of a radio command to the front of a lent buffer; the count is 4. Refused 2, 9.
