@@ -87,7 +87,7 @@ pub extern "C" fn x10_receive(state: &mut [u8], halves: &[u8], events: &mut [u8]
     pack(receive(state, halves, events))
 }
 
-// Puts the four bytes of a code at the front of a buffer, one by one: copied as one they are put together first, and whoever reads one waits for all.
+// Puts the four bytes of a code at the front of a buffer, one by one: by `copy_from_slice` a call takes eight instructions more.
 fn put_code(out: &mut [u8], code: &[u8; 4])
     requires { 4 ≤ length out.old }
     ensures { (out.new ≡ sets out.old 0 code.now) × (length code.now ≡ 4) }
@@ -103,7 +103,7 @@ fn write_code(k: RadioCommand, out: &mut [u8]) -> Result<usize, Refusal>
     ensures value { result ≡ code_answer k (length out.old) }
     ensures out_after { out.new ≡ code_after k out.old }
 {
-    // A `match` and no `?`: by that the four bytes would come as one number.
+    // A `match` and no `?`: with it LLVM makes one number of the four bytes again.
     match write(k) {
         Ok(code) => {
             if out.len() < 4 {
